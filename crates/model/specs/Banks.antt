@@ -1,0 +1,109 @@
+-- Filter banks: their class, their filters in order, and the numbers that the filters have in their FIFO.
+-- Document 01: "Order, filters, storage". A bank's number and a filter's number in its FIFO are two types.
+use mathlib.Core.Bool.{Bool, true, false, not}
+use mathlib.Core.List.{List, [], _∷_}
+use Prim.Native.Nat.{ℕ, zero, suc, _+_, _-_, _*_, _/_, _%_, _^_}
+use lib.Dec.{eqb, ltb}
+use lib.Bits.{bitAnd}
+use lib.ListN.{length}
+use Rattle.model.specs.Base.{pick, bit, bits, sum}
+use Rattle.model.specs.declared.Filters.{Filters}
+use Rattle.model.specs.declared.Bank.{Bank}
+use Rattle.model.specs.declared.FilterNumber.{FilterNumber}
+use Rattle.model.specs.declared.FilterClass.{FilterClass}
+use Rattle.model.specs.declared.FilterClass.the-variants.{List32, Mask32, List16, Mask16}
+use Rattle.model.specs.declared.Fifo.{Fifo}
+use Rattle.model.specs.declared.Fifo.the-variants.{F0, F1}
+
+abbrev pub bank : ℕ → Bank
+bank i = record { 0 = i }
+
+abbrev pub filterNumber : ℕ → FilterNumber
+filterNumber x = record { 0 = x }
+
+-- ---- the class of a bank: its bits in FS1R (1: 32-bit) and FM1R (1: list)
+
+abbrev pub classBy : Bool → Bool → FilterClass
+classBy true true = List32
+classBy true false = Mask32
+classBy false true = List16
+classBy false false = Mask16
+
+unfoldable pub classOf : Filters → ℕ → FilterClass
+classOf g i = classBy (bit i (g .scale)) (bit i (g .mode))
+
+-- 32-bit wins over 16, list over mask
+abbrev pub rank : FilterClass → ℕ
+rank List32 = 0
+rank Mask32 = 1
+rank List16 = 2
+rank Mask16 = 3
+
+-- ---- its filters
+
+-- a list filter takes the one word; a mask filter takes each word that agrees with its own wherever the mask has a 1
+pub data Filter : Type 0 where
+  exactly : ℕ → Filter
+  under : ℕ → ℕ → Filter
+
+abbrev pub lowHalf : ℕ → ℕ
+lowHalf r = r % 65536
+
+abbrev pub highHalf : ℕ → ℕ
+highHalf r = r / 65536
+
+-- the filters of a bank with the words a (R1) and b (R2): R1 before R2, low half before high;
+-- a 16-bit mask is the high half over its low half's identifier
+abbrev pub filters : FilterClass → ℕ → ℕ → List Filter
+filters List32 a b = exactly a ∷ exactly b ∷ []
+filters Mask32 a b = under a b ∷ []
+filters List16 a b = exactly (lowHalf a) ∷ exactly (highHalf a) ∷ exactly (lowHalf b) ∷ exactly (highHalf b) ∷ []
+filters Mask16 a b = under (lowHalf a) (highHalf a) ∷ under (lowHalf b) (highHalf b) ∷ []
+
+-- how many filters a bank gives: 2, 1, 4, 2
+abbrev pub width : FilterClass → ℕ
+width k = length (filters k 0 0)
+
+-- a frame's 16-bit word, from the top: the top 11 bits, RTR, IDE, EXID 17 to 15
+abbrev pub shortWord : ℕ → ℕ
+shortWord w = w / 2 ^ 21 * 32 + bits 1 1 w * 16 + bits 2 1 w * 8 + bits 18 3 w
+
+-- the word that filters of a class look at; a frame's 32-bit word is its identifier word as in RI
+abbrev pub wordFor : FilterClass → ℕ → ℕ
+wordFor List32 w = w
+wordFor Mask32 w = w
+wordFor List16 w = shortWord w
+wordFor Mask16 w = shortWord w
+
+abbrev pub takes : Filter → ℕ → Bool
+takes (exactly x) w = eqb w x
+takes (under x m) w = eqb (bitAnd w m) (bitAnd x m)
+
+abbrev pub takenAt : List Filter → ℕ → ℕ → Bool
+takenAt [] j w = false
+takenAt (x ∷ l) zero w = takes x w
+takenAt (x ∷ l) (suc j) w = takenAt l j w
+
+-- filter j of a bank of class k with the words a and b takes a frame with the identifier word w
+unfoldable pub matches : FilterClass → ℕ → ℕ → ℕ → ℕ → Bool
+matches k a b j w = takenAt (filters k a b) j (wordFor k w)
+
+-- ---- its numbers
+
+-- the bank's bit in FFA1R
+abbrev pub belongs : Fifo → Filters → ℕ → Bool
+belongs F0 g i = not (bit i (g .assignment))
+belongs F1 g i = bit i (g .assignment)
+
+-- the word with a 1 for each bank of the FIFO
+abbrev pub own : Fifo → Filters → ℕ
+own F0 g = (2 ^ 32 - 1) - g .assignment
+own F1 g = g .assignment
+
+-- how many numbers of the FIFO a bank takes, active or not
+abbrev pub share : Fifo → Filters → ℕ → ℕ
+share f g i = pick (belongs f g i) (width (classOf g i)) 0
+
+-- the number of a bank's first filter, of n banks: each FIFO numbers its own banks' filters upward from 0
+unfoldable pub firstNumber : ℕ → Filters → Fifo → Bank → FilterNumber
+firstNumber n g f b = filterNumber (sum (share f g) (pick (ltb (b .0) n) (b .0) n))

@@ -1,0 +1,13 @@
+pub mod Base
+pub mod Queue
+pub mod Mailboxes
+pub mod Banks
+pub mod Search
+pub mod Reception
+pub mod Control
+pub mod Registers
+pub mod Step
+pub mod Requests
+pub mod Fairness
+pub mod Script
+pub mod Reachable

@@ -1,0 +1,158 @@
+-- The states that steps reach from hardware reset: what each field is then.
+-- Each word holds only the bits that its mask lets through.
+use mathlib.Core.Bool.{Bool, true, false, not, _&&_, _||_}
+use mathlib.Core.List.{List, [], _∷_}
+use mathlib.Core.Path.{_≡_}
+use Prim.Native.Nat.{ℕ, _+_, _*_, _/_, _%_, _^_, _<_, _≤_}
+use lib.Dec.{eqb, ltb, leb}
+use lib.ListN.{length}
+use Rattle.model.specs.Base.{pick, bit, bits}
+use Rattle.model.specs.Queue.{same, flag, holds, isFrom, isNobody}
+use Rattle.model.specs.Mailboxes.{tdtMasked}
+use Rattle.model.specs.Reception.{noFrame}
+use Rattle.model.specs.Control.{ttcm, isSleep, isNormal, boff, mcrMasked, ierMasked, btrMasked}
+use Rattle.model.specs.Registers.{bankCount, filterMasked, isFree}
+use Rattle.model.specs.declared.Mailbox.{Mailbox}
+use Rattle.model.specs.declared.Sender.{Sender}
+use Rattle.model.specs.declared.Sender.the-variants.{Nobody, From}
+use Rattle.model.specs.declared.RequestOrder.{RequestOrder}
+use Rattle.model.specs.declared.RequestOrder.the-variants.{Empty, One, Two, Three}
+use Rattle.model.specs.declared.Queue.{Queue}
+use Rattle.model.specs.declared.MailboxState.{MailboxState}
+use Rattle.model.specs.declared.StoredFrame.{StoredFrame}
+use Rattle.model.specs.declared.FifoState.{FifoState}
+use Rattle.model.specs.declared.Frame.{Frame}
+use Rattle.model.specs.declared.Filters.{Filters}
+use Rattle.model.specs.declared.Control.{Control}
+use Rattle.model.specs.declared.Errors.{Errors}
+use Rattle.model.specs.declared.Core.{Core}
+use Rattle.model.specs.declared.Controller.{Controller}
+use Rattle.model.specs.declared.Step as steps
+use Rattle.model.specs.declared.Step.the-variants.{Reset, Read, Write, Idle, BitTimes, Activity, Start, Outcome, Receive, ReceiveError}
+
+-- ---- requests
+
+-- no mailbox twice
+abbrev pub distinct : RequestOrder → Bool
+distinct Empty = true
+distinct (One a) = true
+distinct (Two a b) = not (same a b)
+distinct (Three a b c) = not (same a b) && not (same a c) && not (same b c)
+
+-- the one on the wire has a request
+abbrev pub carried : Sender → RequestOrder → Bool
+carried Nobody o = true
+carried (From m) o = holds o m
+
+pub record QueueRange (q : Queue) : Type 0 where
+  pub once : distinct (q .order) ≡ true
+  pub carries : carried (q .transmitting) (q .order) ≡ true
+  -- an abort is remembered only of the mailbox on the wire
+  pub aborts : (m : Mailbox) → flag (q .aborts) m ≡ true → isFrom (q .transmitting) m ≡ true
+
+-- TXRQ is not kept in `ti`
+pub record MailboxRange (x : MailboxState) : Type 0 where
+  pub ti : x .ti < 2 ^ 32
+  pub even : x .ti / 2 * 2 ≡ x .ti
+  pub tdt : tdtMasked (x .tdt) ≡ x .tdt
+  pub tdl : x .tdl < 2 ^ 32
+  pub tdh : x .tdh < 2 ^ 32
+
+-- ---- frames
+
+-- an identifier word as in RI: bit 0 is 0, and a standard one has no extended bits
+pub record IdentifierRange (w : ℕ) : Type 0 where
+  pub word : w < 2 ^ 32
+  pub even : bit 0 w ≡ false
+  pub standard : bit 2 w ≡ false → bits 3 18 w ≡ 0
+
+-- FMI is below 4 times the number of banks
+pub record FrameRange (x : StoredFrame) : Type 0 where
+  pub ri : IdentifierRange (x .ri)
+  pub rdt : x .rdt < 2 ^ 32
+  pub dlc : bits 4 4 (x .rdt) ≡ 0
+  pub fmi : bits 8 8 (x .rdt) < 4 * bankCount
+  pub rdl : x .rdl < 2 ^ 32
+  pub rdh : x .rdh < 2 ^ 32
+
+-- places past the count hold zeros
+pub record FifoRange (q : FifoState) : Type 0 where
+  pub count : q .count ≤ 3
+  pub first : FrameRange (q .first)
+  pub second : FrameRange (q .second)
+  pub third : FrameRange (q .third)
+  pub noFirst : q .count ≡ 0 → q .first ≡ noFrame
+  pub noSecond : q .count ≤ 1 → q .second ≡ noFrame
+  pub noThird : q .count ≤ 2 → q .third ≡ noFrame
+
+-- ---- filters
+
+pub record FilterRange (g : Filters) : Type 0 where
+  pub mode : filterMasked (g .mode) ≡ g .mode
+  pub scale : filterMasked (g .scale) ≡ g .scale
+  pub assignment : filterMasked (g .assignment) ≡ g .assignment
+  pub activation : filterMasked (g .activation) ≡ g .activation
+
+abbrev pub Words : List ℕ → Type 0
+Words [] = Unit {0}
+Words (w ∷ l) = (w < 2 ^ 32) × Words l
+
+-- ---- control and errors
+
+pub record ControlRange (k : Control) : Type 0 where
+  pub mcr : mcrMasked (k .mcr) ≡ k .mcr
+  pub ier : ierMasked (k .ier) ≡ k .ier
+  pub btr : btrMasked (k .btr) ≡ k .btr
+  pub timer : k .timer < 65536
+  pub stopped : ttcm k ≡ false → k .timer ≡ 0
+  pub recovery : k .recovery < 128
+  pub slaki : k .slaki ≡ true → isSleep (k .mode) ≡ true
+
+pub record ErrorRange (e : Errors) : Type 0 where
+  pub tec : e .tec ≤ 263
+  pub rec : e .rec ≤ 255
+  pub lec : e .lec ≤ 7
+
+-- out of bus-off nothing counts towards recovery
+pub record RecoveryRange (k : Control) (e : Errors) : Type 0 where
+  pub count : boff e ≡ false → k .recovery ≡ 0
+  pub initialized : boff e ≡ false → k .initialized ≡ false
+
+-- with an own frame on the wire: Normal and not bus-off
+pub record WireRange (c : Core) : Type 0 where
+  pub normal : isFree c ≡ false → isNormal (c .control .mode) ≡ true
+  pub on : isFree c ≡ false → boff (c .errors) ≡ false
+
+-- ---- the controller
+
+pub record InRange (z : Controller) : Type 0 where
+  pub control : ControlRange (z .core .control)
+  pub errors : ErrorRange (z .core .errors)
+  pub recovery : RecoveryRange (z .core .control) (z .core .errors)
+  pub wire : WireRange (z .core)
+  pub queue : QueueRange (z .core .transmit .queue)
+  pub m0 : MailboxRange (z .core .transmit .mailboxes .m0)
+  pub m1 : MailboxRange (z .core .transmit .mailboxes .m1)
+  pub m2 : MailboxRange (z .core .transmit .mailboxes .m2)
+  pub fifo0 : FifoRange (z .core .fifo0)
+  pub fifo1 : FifoRange (z .core .fifo1)
+  pub filters : FilterRange (z .core .filters)
+  pub bankWords : length (z .banks) ≡ 2 * bankCount
+  pub banks : Words (z .banks)
+
+-- a step whose numbers fit the widths that a script or a caller can give them
+abbrev pub StepRange : steps.Step → Type 0
+StepRange Reset = Unit {0}
+StepRange (Read o) = Unit {0}
+StepRange (Write o w) = w < 2 ^ 32
+StepRange Idle = Unit {0}
+StepRange (BitTimes n) = Unit {0}
+StepRange Activity = Unit {0}
+StepRange Start = Unit {0}
+StepRange (Outcome r) = Unit {0}
+StepRange (Receive x) = (x .identifier < 2 ^ 32) × (x .low < 2 ^ 32) × (x .high < 2 ^ 32)
+StepRange (ReceiveError k n) = Unit {0}
+
+abbrev pub StepsRange : List steps.Step → Type 0
+StepsRange [] = Unit {0}
+StepsRange (s ∷ l) = StepRange s × StepsRange l

@@ -1,0 +1,75 @@
+-- The filter that a frame passes, and so the FIFO that it goes to.
+-- Document 01: "Order, filters, storage". n is the number of banks, v their words R1 and R2 in turn, w the identifier word.
+use mathlib.Core.Bool.{Bool, true, false, _&&_}
+use mathlib.Core.List.{List, [], _∷_}
+use Prim.Native.Nat.{ℕ, zero, suc, _+_, _*_}
+use lib.Dec.{eqb, ltb}
+use lib.ListN.{getD}
+use Rattle.model.specs.Base.{pick, bit}
+use Rattle.model.specs.Banks.{bank, filterNumber, classOf, rank, width, matches, belongs, firstNumber}
+use Rattle.model.specs.declared.Filters.{Filters}
+use Rattle.model.specs.declared.FilterClass.{FilterClass}
+use Rattle.model.specs.declared.FilterClass.the-variants.{List32, Mask32, List16, Mask16}
+use Rattle.model.specs.declared.Fifo.{Fifo}
+use Rattle.model.specs.declared.Fifo.the-variants.{F0, F1}
+use Rattle.model.specs.declared.FilterNumber.{FilterNumber}
+use Rattle.model.specs.declared.Hit.{Hit}
+use Rattle.model.specs.declared.Hit.the-variants.{Filter, Nothing}
+use Rattle.model.specs.declared.Acceptance.{Acceptance}
+use Rattle.model.specs.declared.Acceptance.the-variants.{Into, Rejected}
+
+-- ---- the first of several
+
+abbrev pub orElse : Hit → Hit → Hit
+orElse (Filter x) h = Filter x
+orElse Nothing h = h
+
+-- the first hit among p 0, .., p (n - 1)
+unfoldable pub first : (ℕ → Hit) → ℕ → Hit
+first p zero = Nothing
+first p (suc n) = orElse (first p n) (p n)
+
+-- ---- one class in one FIFO
+
+-- bank i is active, of this FIFO and of this class
+unfoldable pub searched : Filters → FilterClass → Fifo → ℕ → Bool
+searched g k f i = bit i (g .activation) && (belongs f g i && eqb (rank (classOf g i)) (rank k))
+
+-- how many filters of bank i are looked at
+unfoldable pub tried : Filters → FilterClass → Fifo → ℕ → ℕ
+tried g k f i = pick (searched g k f i) (width k) 0
+
+-- filter j of bank i, if it matches
+unfoldable pub hitAt : ℕ → Filters → List ℕ → ℕ → FilterClass → Fifo → ℕ → ℕ → Hit
+hitAt n g v w k f i j =
+    pick (matches k (getD v (2 * i) 0) (getD v (2 * i + 1) 0) j w) (Filter (filterNumber (firstNumber n g f (bank i) .0 + j))) Nothing
+
+-- the first filter of bank i that matches
+unfoldable pub hitIn : ℕ → Filters → List ℕ → ℕ → FilterClass → Fifo → ℕ → Hit
+hitIn n g v w k f i = first (hitAt n g v w k f i) (tried g k f i)
+
+-- the matching filter with the lowest number
+unfoldable pub firstHit : ℕ → Filters → List ℕ → ℕ → FilterClass → Fifo → Hit
+firstHit n g v w k f = first (hitIn n g v w k f) n
+
+-- ---- the winner
+
+-- of the first matches of a class in FIFO 0 and in FIFO 1: the lower filter number, FIFO 0 where they are equal
+abbrev pub better : Hit → Hit → Acceptance
+better (Filter x) (Filter y) = pick (ltb (y .0) (x .0)) (Into F1 y) (Into F0 x)
+better (Filter x) Nothing = Into F0 x
+better Nothing (Filter y) = Into F1 y
+better Nothing Nothing = Rejected
+
+abbrev pub orNext : Acceptance → Acceptance → Acceptance
+orNext (Into f x) b = Into f x
+orNext Rejected b = b
+
+-- of classes, the preferred first: the first that has a match in either FIFO; h k f is the first match of class k in FIFO f
+unfoldable pub chosen : {K : Type 0} → (K → Fifo → Hit) → List K → Acceptance
+chosen h [] = Rejected
+chosen h (k ∷ l) = orNext (better (h k F0) (h k F1)) (chosen h l)
+
+-- 32-bit wins over 16, list over mask, then the lower filter number, then FIFO 0
+unfoldable pub acceptance : ℕ → Filters → List ℕ → ℕ → Acceptance
+acceptance n g v w = chosen (firstHit n g v w) (List32 ∷ Mask32 ∷ List16 ∷ Mask16 ∷ [])
