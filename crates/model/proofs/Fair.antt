@@ -1,0 +1,286 @@
+-- Demand 3: the fairness of request order, for every list of steps.
+use mathlib.Core.Bool.{Bool, true, false, not, _&&_, _||_, true≢false, false≢true}
+use mathlib.Core.Path.{_≡_, refl, sym, subst, ap, _∙_}
+use mathlib.Core.List.{List, [], _∷_, _++_}
+use mathlib.Core.Logic.{_⊎_, inl, inr}
+use Prim.Native.Nat.{ℕ, suc, _≤_, _<_, _+_, _*_, _/_, _%_, _^_}
+use native.Mathlib.Omega.{arith}
+use lib.Dec.{leb, ltb, eqb}
+use borrow.Author.Tests.{eq-eqb, ne-eqb}
+use Rattle.model.specs.Base.{pick, bit, one}
+use Rattle.model.specs.Queue.{number, flag, holds, joined, senderNumber}
+use Rattle.model.specs.Mailboxes.{tsr, tsrByte, code, lastOf, tme}
+use Rattle.model.specs.Control.{txfp, controlReset}
+use Rattle.model.specs.Registers.{reset, registerAt, controlRegister, readWord}
+use Rattle.model.specs.Step.{step, answered, refusal, wordOf}
+use Rattle.model.specs.Reachable.{distinct, carried}
+use Rattle.model.specs.Requests.{Event, nothing, drops, modes, accepts, aborts, starts, ends, Entry, Requests, noneYet, next, requestsAfter, after, entries, event, entry}
+use Rattle.model.specs.Fairness.{isDrop, inOrder, Moment, meanwhile, hasEnded, underRequestOrder, otherEnds, otherEnd, isGood, endsWell, every, count, Served, Fairness, requestsAt, entriesFrom}
+use Rattle.model.specs.declared.Mailbox.{Mailbox}
+use Rattle.model.specs.declared.Mailbox.the-variants.{M0, M1, M2}
+use Rattle.model.specs.declared.Sender.{Sender}
+use Rattle.model.specs.declared.Sender.the-variants.{Nobody, From}
+use Rattle.model.specs.declared.RequestOrder.{RequestOrder}
+use Rattle.model.specs.declared.MailboxState.{MailboxState}
+use Rattle.model.specs.declared.Transmit.{Transmit}
+use Rattle.model.specs.declared.Controller.{Controller}
+use Rattle.model.specs.declared.Step as steps
+use Rattle.model.specs.declared.Step.the-variants.{Read}
+use Rattle.model.proofs.Choices.{Is, Not, Is-not, and-l, and-r, pick-cases}
+use Rattle.model.proofs.Orders.{ahead, ahead-two, outOf, flag-out, holds-joined, last-joined}
+use Rattle.model.proofs.Views.{View, viewNext, Granted, Sound, requestsOf, requests-follow, sound-next, Waits, inFront, Turn, over, on, turn, one-le}
+use Rattle.model.proofs.Follows.{viewOf, follows}
+
+-- ---- the observer's requests are the controller's
+
+abbrev Good : Controller → Type 0
+Good z = Sound (z .core .transmit .queue)
+
+abbrev view : Controller → View
+view z = viewOf (z .core)
+
+step-sound : (z : Controller) (s : steps.Step) → Good z → Good (step z s .controller)
+step-sound z s g = subst (λ (d : View). Sound (d .queue)) (sym (follows z s .view)) (sound-next (view z) (event (entry s (step z s))) g (follows z s .granted))
+
+step-requests : (z : Controller) (s : steps.Step) → Good z → next (requestsOf (view z)) (event (entry s (step z s))) ≡ requestsOf (view (step z s .controller))
+step-requests z s g = requests-follow (view z) (event (entry s (step z s))) g (follows z s .granted) ∙ ap requestsOf (sym (follows z s .view))
+
+run-sound : (l : List steps.Step) (z : Controller) → Good z → Good (after z l)
+unfolding after
+run-sound [] z g = g
+run-sound (s ∷ l) z g = run-sound l (step z s .controller) (step-sound z s g)
+
+run-requests : (l : List steps.Step) (z : Controller) → Good z → requestsAfter (requestsOf (view z)) (entries z l) ≡ requestsOf (view (after z l))
+unfolding after entries requestsAfter
+run-requests [] z g = refl
+run-requests (s ∷ l) z g =
+    ap (λ (b : Requests). requestsAfter b (entries (step z s .controller) l)) (step-requests z s g)
+    ∙ run-requests l (step z s .controller) (step-sound z s g)
+
+reset-sound : Good reset
+unfolding reset
+reset-sound = record { once = refl; wired = refl }
+
+reset-requests : requestsOf (view reset) ≡ noneYet
+unfolding reset controlReset
+reset-requests = refl
+
+pub sound-at : (l : List steps.Step) → Good (after reset l)
+sound-at l = run-sound l reset reset-sound
+
+pub requests-at : (l : List steps.Step) → requestsAt l ≡ requestsOf (view (after reset l))
+requests-at l = subst (λ (b : Requests). requestsAfter b (entries reset l) ≡ requestsOf (view (after reset l))) reset-requests (run-requests l reset reset-sound)
+
+-- ---- what is shown of the time in which m waits, k places from the front
+
+record Shown (m : Mailbox) (b : Requests) (es : List Entry) (k : ℕ) : Type 0 where
+  few : count (otherEnds m) (meanwhile m b es) ≤ k
+  ended : (hasEnded m b es ≡ true) ⊎ (count endsWell es ≤ k)
+
+gone-meanwhile : (m : Mailbox) (b : Requests) (es : List Entry) → Not (flag (b .outstanding) m) → meanwhile m b es ≡ []
+unfolding meanwhile
+gone-meanwhile m b [] h = refl
+gone-meanwhile m b (e ∷ es) h = rw h
+
+gone-ended : (m : Mailbox) (b : Requests) (es : List Entry) → Not (flag (b .outstanding) m) → hasEnded m b es ≡ true
+unfolding hasEnded
+gone-ended m b [] h = rw h
+gone-ended m b (e ∷ es) h = rw h
+
+meanwhile-cons : (m : Mailbox) (b : Requests) (e : Entry) (es : List Entry) → Is (flag (b .outstanding) m)
+    → meanwhile m b (e ∷ es) ≡ record { requests = b; event = event e } ∷ meanwhile m (next b (event e)) es
+unfolding meanwhile
+meanwhile-cons m b e es h = rw h
+
+ended-cons : (m : Mailbox) (b : Requests) (e : Entry) (es : List Entry) → Not (isDrop (event e)) → Is (flag (b .outstanding) m) → hasEnded m b (e ∷ es) ≡ hasEnded m (next b (event e)) es
+unfolding hasEnded
+ended-cons m b e es k h = rw (h, k)
+
+-- one step more
+extend : (m : Mailbox) (b : Requests) (e : Entry) (es : List Entry) (k k′ : ℕ) → Not (isDrop (event e)) → Is (flag (b .outstanding) m) → Shown m (next b (event e)) es k′
+    → one (otherEnd m (event e) b) + k′ ≤ k → one (isGood (event e)) ≤ one (otherEnd m (event e) b) → Shown m b (e ∷ es) k
+unfolding count
+extend m b e es k k′ nd h o l l′ = record {
+  few = rw (meanwhile-cons m b e es h) (omega (arith, o .few));
+  ended = go (o .ended);
+}
+  where
+    go : (hasEnded m (next b (event e)) es ≡ true) ⊎ (count endsWell es ≤ k′) → (hasEnded m b (e ∷ es) ≡ true) ⊎ (count endsWell (e ∷ es) ≤ k)
+    go (inl x) = inl (ended-cons m b e es nd h ∙ x)
+    go (inr x) = inr (omega arith)
+
+finish : (m : Mailbox) (b : Requests) (e : Entry) (es : List Entry) (k : ℕ) → Not (isDrop (event e)) → Is (flag (b .outstanding) m) → Not (flag (next b (event e) .outstanding) m)
+    → otherEnd m (event e) b ≡ false → Shown m b (e ∷ es) k
+unfolding count
+finish m b e es k nd h g x = record {
+  few = rw (meanwhile-cons m b e es h, gone-meanwhile m (next b (event e)) es g, x) (omega arith);
+  ended = inl (ended-cons m b e es nd h ∙ gone-ended m (next b (event e)) es g);
+}
+
+every-head : (p : Moment → Bool) (x : Moment) (l : List Moment) → every p (x ∷ l) ≡ true → p x ≡ true
+unfolding every
+every-head p x l h = and-l (p x) (every p l) h
+
+every-tail : (p : Moment → Bool) (x : Moment) (l : List Moment) → every p (x ∷ l) ≡ true → every p l ≡ true
+unfolding every
+every-tail p x l h = and-r (p x) (every p l) h
+
+abbrev Promise : Mailbox → List Entry → View → Type 0
+Promise m es d = every underRequestOrder (meanwhile m (requestsOf d) es) ≡ true → Shown m (requestsOf d) es (ahead m (d .queue .order))
+
+outstanding-held : (d : View) (m : Mailbox) (b : Bool) → holds (d .queue .order) m ≡ b → flag (requestsOf d .outstanding) m ≡ b
+outstanding-held d m b h = flag-out (d .queue .order) m ∙ h
+
+ordered-keeps : (x : Event) (t : Bool) → Is (inOrder x t) → Not (isDrop x)
+ordered-keeps nothing t h = refl
+ordered-keeps drops t h = absurd (false≢true h)
+ordered-keeps (modes a b) t h = refl
+ordered-keeps (accepts m) t h = refl
+ordered-keeps (aborts f) t h = refl
+ordered-keeps (starts m) t h = refl
+ordered-keeps (ends g) t h = refl
+
+advance : (m : Mailbox) (d : View) (e : Entry) (es : List Entry) → Not (isDrop (event e)) → next (requestsOf d) (event e) ≡ requestsOf (viewNext d (event e)) → Waits (d .queue) m
+    → Turn (d .queue) (viewNext d (event e) .queue) m (otherEnd m (event e) (requestsOf d)) (isGood (event e))
+    → (Waits (viewNext d (event e) .queue) m → Promise m es (viewNext d (event e)))
+    → every underRequestOrder (meanwhile m (next (requestsOf d) (event e)) es) ≡ true
+    → Shown m (requestsOf d) (e ∷ es) (ahead m (d .queue .order))
+advance m d e es nd eq w (over gone o) ih h =
+    finish m (requestsOf d) e es _ nd (outstanding-held d m true (w .held))
+    (subst (λ (b : Requests). flag (b .outstanding) m ≡ false) (sym eq) (outstanding-held (viewNext d (event e)) m false (Is-not _ gone))) o
+advance m d e es nd eq w (on w′ l l′) ih h =
+    extend m (requestsOf d) e es _ (ahead m (viewNext d (event e) .queue .order)) nd (outstanding-held d m true (w .held))
+    (subst (λ (b : Requests). Shown m b es (ahead m (viewNext d (event e) .queue .order))) (sym eq)
+    (ih w′ (subst (λ (b : Requests). every underRequestOrder (meanwhile m b es) ≡ true) eq h))) l l′
+
+-- while m waits
+waits : (l : List steps.Step) (z : Controller) (m : Mailbox) → Good z → Waits (z .core .transmit .queue) m → Promise m (entries z l) (view z)
+unfolding entries meanwhile count
+waits [] z m g w h = record { few = omega arith; ended = inr (omega arith) }
+waits (s ∷ l) z m g w h =
+    let d : View = view z in
+    let e : Entry = entry s (step z s) in
+    let es : List Entry = entries (step z s .controller) l in
+    let h′ : every underRequestOrder (record { requests = requestsOf d; event = event e } ∷ meanwhile m (next (requestsOf d) (event e)) es) ≡ true =
+        rw (meanwhile-cons m (requestsOf d) e es (outstanding-held d m true (w .held))) at h in
+    advance m d e es (ordered-keeps (event e) (txfp (z .core .control)) (every-head underRequestOrder _ _ h′)) (requests-follow d (event e) g (follows z s .granted)) w
+    (turn d (event e) m g (follows z s .granted) w (every-head underRequestOrder _ _ h′))
+    (subst (λ (d′ : View). Waits (d′ .queue) m → Promise m es d′) (follows z s .view) (waits l (step z s .controller) m (step-sound z s g)))
+    (every-tail underRequestOrder _ _ h′)
+
+-- ---- an accepted request waits, last of all
+
+front-last : (w : Sender) (o : RequestOrder) (m : Mailbox) → Is (distinct o) → Is (not (holds o m)) → Is (carried w o) → Is (inFront w m (joined o m))
+front-last Nobody o m d h c = refl
+front-last (From y) o m d h c = last-joined o d m y h c
+
+accepted-waits : (d : View) (m : Mailbox) → Sound (d .queue) → Is (not (holds (d .queue .order) m)) → Waits (viewNext d (accepts m) .queue) m
+accepted-waits d m g h = record {
+  held = holds-joined (d .queue .order) (g .once) m h;
+  front = front-last (d .queue .transmitting) (d .queue .order) m (g .once) h (g .wired);
+}
+
+served : (m : Mailbox) (b : Requests) (es : List Entry) (k : ℕ) → k ≤ 2 → Shown m b es k → Served m b es
+served m b es k l o = record { few = omega (arith, o .few); ended = go (o .ended) }
+  where
+    go : (hasEnded m b es ≡ true) ⊎ (count endsWell es ≤ k) → 3 ≤ count endsWell es → hasEnded m b es ≡ true
+    go (inl e) h = e
+    go (inr e) h = absurd (omega arith)
+
+abbrev Claim : Requests → Mailbox → List Entry → Type 0
+Claim b m es = every underRequestOrder (meanwhile m b es) ≡ true → Served m b es
+
+-- just accepted
+accepted : (rest : List steps.Step) (z : Controller) (s : steps.Step) (m : Mailbox) → Good z → event (entry s (step z s)) ≡ accepts m
+    → Claim (requestsOf (view (step z s .controller))) m (entries (step z s .controller) rest)
+accepted rest z s m g e h =
+    let d : View = view z in
+    let z′ : Controller = step z s .controller in
+    let at : view z′ ≡ viewNext d (accepts m) = follows z s .view ∙ ap (viewNext d) e in
+    let new : Granted d (accepts m) = subst (Granted d) e (follows z s .granted) in
+    let w : Waits (z′ .core .transmit .queue) m = subst (λ (x : View). Waits (x .queue) m) (sym at) (accepted-waits d m g new) in
+    served m _ _ _ (ahead-two (z′ .core .transmit .queue .order) m) (waits rest z′ m (step-sound z s g) w h)
+
+after-append : (z : Controller) (l : List steps.Step) (s : steps.Step) → after z (l ++ s ∷ []) ≡ step (after z l) s .controller
+unfolding after
+after-append z [] s = refl
+after-append z (t ∷ l) s = after-append (step z t .controller) l s
+
+-- ---- TME in a TSR read
+
+module _ (low : ℕ) (small : low < 2 ^ 26) (a b c : Bool) (x y z : ℕ) where
+  abbrev word : ℕ
+  word = low + one a * 2 ^ 26 + one b * 2 ^ 27 + one c * 2 ^ 28 + x * 2 ^ 29 + y * 2 ^ 30 + z * 2 ^ 31
+
+  bit-26 : word / 2 ^ 26 % 2 ≡ one a
+  bit-26 = omega (arith, one-le a, one-le b, one-le c)
+
+  bit-27 : word / 2 ^ 27 % 2 ≡ one b
+  bit-27 = omega (arith, one-le a, one-le b, one-le c)
+
+  bit-28 : word / 2 ^ 28 % 2 ≡ one c
+  bit-28 = omega (arith, one-le a, one-le b, one-le c)
+
+one-bit : (n : ℕ) (a : Bool) → n ≡ one a → eqb n 1 ≡ a
+one-bit n true e = eq-eqb n 1 e
+one-bit n false e = ne-eqb n 1 (λ q. omega arith)
+
+byte-small : (x : MailboxState) (a : Bool) → tsrByte x a < 256
+unfolding tsrByte
+byte-small x a = omega (arith, one-le (x .rqcp), one-le (x .txok), one-le (x .alst), one-le (x .terr), one-le a)
+
+sender-small : (w : Sender) → senderNumber w ≤ 3
+sender-small Nobody = omega arith
+sender-small (From M0) = omega arith
+sender-small (From M1) = omega arith
+sender-small (From M2) = omega arith
+
+code-small : (p : Bool) (t : Transmit) → code p t ≤ 3
+unfolding code
+code-small p t =
+    pick-cases (λ (n : ℕ). n ≤ 3) (tme t M0) _ _ (λ _. omega arith)
+    (λ _. pick-cases (λ (n : ℕ). n ≤ 3) (tme t M1) _ _ (λ _. omega arith)
+    (λ _. pick-cases (λ (n : ℕ). n ≤ 3) (tme t M2) _ _ (λ _. omega arith) (λ _. sender-small (lastOf p t))))
+
+module _ (p : Bool) (t : Transmit) where
+  low-small : tsrByte (t .mailboxes .m0) (t .queue .aborts .m0) + tsrByte (t .mailboxes .m1) (t .queue .aborts .m1) * 2 ^ 8 + tsrByte (t .mailboxes .m2) (t .queue .aborts .m2) * 2 ^ 16 + code p t * 2 ^ 24 < 2 ^ 26
+  low-small =
+      sum (tsrByte (t .mailboxes .m0) (t .queue .aborts .m0)) (tsrByte (t .mailboxes .m1) (t .queue .aborts .m1)) (tsrByte (t .mailboxes .m2) (t .queue .aborts .m2)) (code p t)
+      (byte-small (t .mailboxes .m0) (t .queue .aborts .m0)) (byte-small (t .mailboxes .m1) (t .queue .aborts .m1)) (byte-small (t .mailboxes .m2) (t .queue .aborts .m2)) (code-small p t)
+    where
+      sum : (x y z u : ℕ) → x < 256 → y < 256 → z < 256 → u ≤ 3 → x + y * 2 ^ 8 + z * 2 ^ 16 + u * 2 ^ 24 < 2 ^ 26
+      sum x y z u a b c d = omega arith
+
+  tme-bit : (m : Mailbox) → bit (26 + number m) (tsr p t) ≡ tme t m
+  unfolding tsr
+  tme-bit M0 = one-bit _ _ (bit-26 _ low-small (tme t M0) (tme t M1) (tme t M2) _ _ _)
+  tme-bit M1 = one-bit _ _ (bit-27 _ low-small (tme t M0) (tme t M1) (tme t M2) _ _ _)
+  tme-bit M2 = one-bit _ _ (bit-28 _ low-small (tme t M0) (tme t M1) (tme t M2) _ _ _)
+
+tsr-code : (z : Controller) → step z (Read 8) .code ≡ 0
+unfolding step answered refusal registerAt controlRegister
+tsr-code z = refl
+
+tsr-word : (z : Controller) → step z (Read 8) .word ≡ tsr (txfp (z .core .control)) (z .core .transmit)
+unfolding step answered refusal wordOf registerAt controlRegister readWord
+tsr-word z = refl
+
+-- ---- demand 3
+
+pub fairness : (l : List steps.Step) → Fairness l
+fairness l = record {
+  read = tsr-code (after reset l);
+  empty = λ m. empty m;
+  served = λ before s rest m e. claim before s rest m;
+}
+  where
+    z : Controller
+    z = after reset l
+
+    empty : (m : Mailbox) → bit (26 + number m) (step z (Read 8) .word) ≡ not (flag (requestsAt l .outstanding) m)
+    empty m = rw (tsr-word z, requests-at l, flag-out (z .core .transmit .queue .order) m) (tme-bit (txfp (z .core .control)) (z .core .transmit) m)
+
+    claim : (before : List steps.Step) (s : steps.Step) (rest : List steps.Step) (m : Mailbox) → event (entry s (step (after reset before) s)) ≡ accepts m
+        → Claim (requestsAt (before ++ s ∷ [])) m (entriesFrom (before ++ s ∷ []) rest)
+    claim before s rest m a =
+        rw (requests-at (before ++ s ∷ []), after-append reset before s) (accepted rest (after reset before) s m (sound-at before) a)

@@ -1,0 +1,5 @@
+pub mod Choices
+pub mod Orders
+pub mod Views
+pub mod Follows
+pub mod Fair
