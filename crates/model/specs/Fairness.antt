@@ -122,6 +122,16 @@ pub record Fairness (l : List steps.Step) : Type 0 where
       → every underRequestOrder (meanwhile m (requestsAt (before ++ s ∷ [])) (entriesFrom (before ++ s ∷ []) rest)) ≡ true
       → Served m (requestsAt (before ++ s ∷ [])) (entriesFrom (before ++ s ∷ []) rest)
 
+-- demand 3 is not empty: a request under request order of which exactly two others end on the wire meanwhile
+pub record TwoOthers : Type 0 where
+  pub before : List steps.Step
+  pub request : steps.Step
+  pub rest : List steps.Step
+  pub mailbox : Mailbox
+  pub accepted : event (entry request (step (after reset before) request)) ≡ accepts mailbox
+  pub ordered : every underRequestOrder (meanwhile mailbox (requestsAt (before ++ request ∷ [])) (entriesFrom (before ++ request ∷ []) rest)) ≡ true
+  pub two : count (otherEnds mailbox) (meanwhile mailbox (requestsAt (before ++ request ∷ [])) (entriesFrom (before ++ request ∷ []) rest)) ≡ 2
+
 -- ---- lowest-identifier order
 
 -- the request of a mailbox other than m ends well
