@@ -5,3 +5,6 @@ pub mod Follows
 pub mod Fair
 pub mod Computed
 pub mod Starve
+pub mod Bounded
+pub mod Mapped
+pub mod Coded

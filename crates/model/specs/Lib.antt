@@ -11,3 +11,4 @@ pub mod Requests
 pub mod Fairness
 pub mod Script
 pub mod Reachable
+pub mod Codes
