@@ -8,3 +8,4 @@ pub mod Starve
 pub mod Bounded
 pub mod Mapped
 pub mod Coded
+pub mod Waiting

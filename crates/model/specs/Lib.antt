@@ -12,3 +12,4 @@ pub mod Fairness
 pub mod Script
 pub mod Reachable
 pub mod Codes
+pub mod History
