@@ -1,25 +1,23 @@
 -- Where a frame goes: the FIFO of the active filter that is first by class, number, FIFO among those that take its identifier word;
 -- and it is rejected exactly when there is none. Assumes nothing.
-use mathlib.Core.Path.{_≡_, refl, sym, ap, ap₂, _∙_}
+use mathlib.Core.Path.{_≡_, refl, ap₂, _∙_}
 use mathlib.Core.List.{List, [], _∷_}
-use mathlib.Core.Logic.{_⊎_, inl, inr, _↔_}
-use Prim.Native.Nat.{ℕ, zero, suc, _≤_, _<_}
-use native.Mathlib.Omega.{arith}
-use Rattle.model.specs.Banks.{filterNumber, rank}
-use Rattle.model.specs.Search.{firstHit, chosen, acceptance}
+use mathlib.Core.Logic.{_↔_}
+use Prim.Native.Nat.{ℕ}
+use Rattle.model.specs.Banks.{rank}
+use Rattle.model.specs.Search.{firstHit, acceptance}
 use Rattle.model.specs.declared.Filters.{Filters}
 use Rattle.model.specs.declared.FilterClass.{FilterClass}
 use Rattle.model.specs.declared.FilterClass.the-variants.{List32, Mask32, List16, Mask16}
 use Rattle.model.specs.declared.Fifo.{Fifo}
-use Rattle.model.specs.declared.Fifo.the-variants.{F0, F1}
 use Rattle.model.specs.declared.FilterNumber.{FilterNumber}
 use Rattle.model.specs.declared.Hit.{Hit}
 use Rattle.model.specs.declared.Hit.the-variants.{Filter, Nothing}
 use Rattle.model.specs.declared.Acceptance.{Acceptance}
 use Rattle.model.specs.declared.Acceptance.the-variants.{Into, Rejected}
-use Rattle.model.proofs.FirstHit.{no-hit-is-none}
+use Rattle.model.proofs.FirstHit.{nothing-no-filter}
 use Rattle.model.proofs.LowestNumber.{ActiveMatch, numberOf, lowest, first-hit-active}
-use Rattle.model.proofs.Preference.{fifoNumber, NoLater, no-later-than-higher, Place, here, there, best, rejected}
+use Rattle.model.proofs.Preference.{NoLater, no-later-than-higher, no-later-both-ways, Place, here, there, best, rejected-iff-no-hits}
 
 -- ---- the four classes in their order
 
@@ -34,22 +32,6 @@ place-rank r k here = refl
 place-rank r k (there here) = refl
 place-rank r k (there (there here)) = refl
 place-rank r k (there (there (there here))) = refl
-
-fifo-injective : (f e : Fifo) → fifoNumber f ≡ fifoNumber e → f ≡ e
-fifo-injective F0 F0 h = refl
-fifo-injective F1 F1 h = refl
-fifo-injective F0 F1 h = absurd (omega arith)
-fifo-injective F1 F0 h = absurd (omega arith)
-
-level : (r s : ℕ) (x y : FilterNumber) (f e : Fifo) → NoLater r x f s y e → NoLater s y e r x f → (f ≡ e) × (x ≡ y)
-level r s x y f e (inr (p, inr a)) (inr (q, inr b)) = (fifo-injective f e (omega arith), ap filterNumber (a .0))
-level r s x y f e (inr (p, inr a)) (inr (q, inl b)) = absurd (omega arith)
-level r s x y f e (inr (p, inr a)) (inl q) = absurd (omega arith)
-level r s x y f e (inr (p, inl a)) (inr (q, inr b)) = absurd (omega arith)
-level r s x y f e (inr (p, inl a)) (inr (q, inl b)) = absurd (omega arith)
-level r s x y f e (inr (p, inl a)) (inl q) = absurd (omega arith)
-level r s x y f e (inl p) (inr q) = absurd (omega (arith, q .0))
-level r s x y f e (inl p) (inl q) = absurd (omega arith)
 
 -- ---- acceptance
 
@@ -76,10 +58,10 @@ module _ (n : ℕ) (g : Filters) (v : List ℕ) (w : ℕ) where
         active = m .2;
         number = m .3;
         noLater = λ k e i j t.
-          let low = lowest n g v w k e i j t in
-          let no-later = b .noLater (rank k) k e (low .0) (place k) (low .1) in
-          rw (← (place-rank (b .rank) (b .class) (b .placed)))
-          (no-later-than-higher (b .rank) (rank k) x (low .0) (numberOf n g e i j) f e no-later (low .2));
+            let low = lowest n g v w k e i j t in
+            let no-later = b .noLater (rank k) k e (low .0) (place k) (low .1) in
+            rw (← (place-rank (b .rank) (b .class) (b .placed)))
+            (no-later-than-higher (b .rank) (rank k) x (low .0) (numberOf n g e i j) f e no-later (low .2));
       }
 
   -- no active filter takes the word
@@ -90,43 +72,43 @@ module _ (n : ℕ) (g : Filters) (v : List ℕ) (w : ℕ) where
   unfolding acceptance
   rejected-none a k f i j m =
       let low = lowest n g v w k f i j m in
-      no-hit-is-none (rejected (firstHit n g v w) _ .0 a (rank k) k f (place k)) (low .1)
+      nothing-no-filter (rejected-iff-no-hits (firstHit n g v w) _ .0 a (rank k) k f (place k)) (low .1)
 
   none-rejected : NoneTakes → acceptance n g v w ≡ Rejected
   unfolding acceptance
-  none-rejected q = rejected (firstHit n g v w) _ .1 (λ r k f p. go k f (firstHit n g v w k f) refl)
+  none-rejected q = rejected-iff-no-hits (firstHit n g v w) _ .1 (λ r k f p. go k f (firstHit n g v w k f) refl)
     where
       go : (k : FilterClass) (f : Fifo) (h : Hit) → firstHit n g v w k f ≡ h → firstHit n g v w k f ≡ Nothing
       go k f Nothing e = e
       go k f (Filter x) e = let m = first-hit-active n g v w k f x e in absurd (q k f (m .0) (m .1) (m .2))
 
   -- a frame is rejected exactly when no active filter takes its identifier word
-  pub rejected-exactly : (acceptance n g v w ≡ Rejected) ↔ NoneTakes
-  rejected-exactly = (rejected-none, none-rejected)
+  pub rejected-iff-none-takes : (acceptance n g v w ≡ Rejected) ↔ NoneTakes
+  rejected-iff-none-takes = (rejected-none, none-rejected)
 
   -- there is only one such filter number and FIFO
-  pub one-accepted : (f e : Fifo) (x y : FilterNumber) → Accepted n g v w f x → Accepted n g v w e y → (f ≡ e) × (x ≡ y)
-  one-accepted f e x y t u =
+  pub accepted-unique : (f e : Fifo) (x y : FilterNumber) → Accepted n g v w f x → Accepted n g v w e y → (f ≡ e) × (x ≡ y)
+  accepted-unique f e x y t u =
       let one = t .noLater (u .class) e (u .bank) (u .filter) (u .active) in
       let two = u .noLater (t .class) f (t .bank) (t .filter) (t .active) in
-      level (rank (t .class)) (rank (u .class)) x y f e (rw (u .number) one) (rw (t .number) two)
+      no-later-both-ways (rank (t .class)) (rank (u .class)) x y f e (rw (u .number) one) (rw (t .number) two)
 
   first-accepted : (f : Fifo) (x : FilterNumber) → Accepted n g v w f x → acceptance n g v w ≡ Into f x
   first-accepted f x t = go (acceptance n g v w) refl
     where
       go : (a : Acceptance) → acceptance n g v w ≡ a → acceptance n g v w ≡ Into f x
       go Rejected d = absurd (rejected-none d (t .class) f (t .bank) (t .filter) (t .active))
-      go (Into e y) d = let same = one-accepted e f y x (accepted-first e y d) t in d ∙ ap₂ Into (same .0) (same .1)
+      go (Into e y) d = let same = accepted-unique e f y x (accepted-first e y d) t in d ∙ ap₂ Into (same .0) (same .1)
 
   -- a frame goes into FIFO f with the filter number x exactly when they are those of an active filter that takes its identifier
   -- word, and no other that takes it comes before that one: by class, then by number, then by FIFO
-  pub accepted-exactly : (f : Fifo) (x : FilterNumber) → (acceptance n g v w ≡ Into f x) ↔ Accepted n g v w f x
-  accepted-exactly f x = (accepted-first f x, first-accepted f x)
+  pub accepted-iff-first : (f : Fifo) (x : FilterNumber) → (acceptance n g v w ≡ Into f x) ↔ Accepted n g v w f x
+  accepted-iff-first f x = (accepted-first f x, first-accepted f x)
 
-  -- so an active filter that takes the word is enough for a frame to be accepted, and no later than by that filter
-  pub accepts : (k : FilterClass) (e : Fifo) (i j : ℕ) → ActiveMatch n g v w k e i j
+  -- an active filter that takes its identifier word is enough for a frame to be accepted
+  pub taken-is-accepted : (k : FilterClass) (e : Fifo) (i j : ℕ) → ActiveMatch n g v w k e i j
       → (f : Fifo) × (x : FilterNumber) × (acceptance n g v w ≡ Into f x) × Accepted n g v w f x
-  accepts k e i j m = go (acceptance n g v w) refl
+  taken-is-accepted k e i j m = go (acceptance n g v w) refl
     where
       go : (a : Acceptance) → acceptance n g v w ≡ a → (f : Fifo) × (x : FilterNumber) × (acceptance n g v w ≡ Into f x) × Accepted n g v w f x
       go Rejected d = absurd (rejected-none d k e i j m)

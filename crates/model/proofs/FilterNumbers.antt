@@ -14,7 +14,7 @@ use Rattle.model.specs.declared.FilterNumber.{FilterNumber}
 use Rattle.model.specs.declared.Acceptance.the-variants.{Into}
 use Rattle.model.proofs.FirstHit.{width-le, filter-within}
 use Rattle.model.proofs.LowestNumber.{sum-up}
-use Rattle.model.proofs.Acceptances.{accepted-exactly}
+use Rattle.model.proofs.Acceptances.{accepted-iff-first}
 
 share-le : (f : Fifo) (g : Filters) (i : ℕ) → share f g i ≤ 4
 share-le f g i = go (belongs f g i)
@@ -33,7 +33,7 @@ sum-share-le f g (suc n) = omega (arith, sum-share-le f g n, share-le f g n)
 pub fmi-small : (n : ℕ) (g : Filters) (v : List ℕ) (w : ℕ) (f : Fifo) (x : FilterNumber) → acceptance n g v w ≡ Into f x → x .0 < 4 * n
 unfolding firstNumber
 fmi-small n g v w f x a =
-    let t = accepted-exactly n g v w f x .0 a in
+    let t = accepted-iff-first n g v w f x .0 a in
     let m = t .active in
     let within = filter-within (t .class) _ _ (t .filter) w (m .takes) in
     let all : sum (share f g) (t .bank) + width (t .class) ≤ sum (share f g) n = rw (m .assigned, m .class) at (sum-up (share f g) (t .bank) n (m .within)) in

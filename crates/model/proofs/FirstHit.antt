@@ -42,9 +42,11 @@ first-at p n i x l e h = le-ind (λ (m : ℕ). first p m ≡ Filter x) (rw (e, h
 
 -- ---- where the first hit stands
 
-pub no-hit-is-none : {h : Hit} {x : FilterNumber} {G : Type 0} → h ≡ Nothing → h ≡ Filter x → G
-no-hit-is-none e d = let z : _≡_ {A = ℕ} 0 1 = cc in absurd (omega arith)
+-- a hit is not both nothing and a filter
+pub nothing-no-filter : {h : Hit} {x : FilterNumber} {G : Type 0} → h ≡ Nothing → h ≡ Filter x → G
+nothing-no-filter e d = let z : _≡_ {A = ℕ} 0 1 = cc in absurd (omega arith)
 
+-- i is below n or not
 pub lower : (i n : ℕ) → (i < n) ⊎ (n ≤ i)
 lower i n = go (ltb i n) refl
   where
@@ -53,20 +55,20 @@ lower i n = go (ltb i n) refl
     go false e = inr (ltb-false i n e)
 
 -- no place below n has a hit, or place i is the lowest that has one
-pub data Searched (p : ℕ → Hit) (n : ℕ) : Type 0 where
-  nowhere : first p n ≡ Nothing → ((j : ℕ) → j < n → p j ≡ Nothing) → Searched p n
-  at : (i : ℕ) (x : FilterNumber) → i < n → p i ≡ Filter x → first p n ≡ Filter x → ((j : ℕ) → j < i → p j ≡ Nothing) → Searched p n
+pub data FirstOfRow (p : ℕ → Hit) (n : ℕ) : Type 0 where
+  nowhere : first p n ≡ Nothing → ((j : ℕ) → j < n → p j ≡ Nothing) → FirstOfRow p n
+  at : (i : ℕ) (x : FilterNumber) → i < n → p i ≡ Filter x → first p n ≡ Filter x → ((j : ℕ) → j < i → p j ≡ Nothing) → FirstOfRow p n
 
 -- `first` gives the hit of the lowest place that has one
-pub search-row : (p : ℕ → Hit) (n : ℕ) → Searched p n
+pub first-of-row : (p : ℕ → Hit) (n : ℕ) → FirstOfRow p n
 unfolding first
-search-row p zero = nowhere refl (λ j h. absurd (omega arith))
-search-row p (suc n) = next (search-row p n) (p n) refl
+first-of-row p zero = nowhere refl (λ j h. absurd (omega arith))
+first-of-row p (suc n) = next (first-of-row p n) (p n) refl
   where
     all : ((j : ℕ) → j < n → p j ≡ Nothing) → p n ≡ Nothing → (j : ℕ) → j < suc n → p j ≡ Nothing
     all q e j h = elim (lower j n) [ inl l ↦ q j l | inr g ↦ let same : j ≡ n = omega arith in rw same e ]
 
-    next : Searched p n → (h : Hit) → p n ≡ h → Searched p (suc n)
+    next : FirstOfRow p n → (h : Hit) → p n ≡ h → FirstOfRow p (suc n)
     next (at i x l e s q) h d = at i x (omega arith) e (rw s) q
     next (nowhere s q) (Filter x) d = at n x (omega arith) d (rw (s, d)) q
     next (nowhere s q) Nothing d = nowhere (rw (s, d)) (all q d)
@@ -78,20 +80,20 @@ Ascending p n = (i j : ℕ) (x y : FilterNumber) → i < j → j < n → p i ≡
 -- where the numbers ascend, the first hit has the lowest number
 pub first-lowest : (p : ℕ → Hit) (n : ℕ) → Ascending p n → (i : ℕ) (y : FilterNumber) → i < n → p i ≡ Filter y
     → (x : FilterNumber) × (first p n ≡ Filter x) × (x .0 ≤ y .0)
-first-lowest p n o i y l e = go (search-row p n)
+first-lowest p n o i y l e = go (first-of-row p n)
   where
     after : (m : ℕ) (x : FilterNumber) → p m ≡ Filter x → ((j : ℕ) → j < m → p j ≡ Nothing) → x .0 ≤ y .0
     after m x d q =
         elim (lower i m) [
-          | inl h ↦ no-hit-is-none (q i h) e
+          | inl h ↦ nothing-no-filter (q i h) e
           | inr h ↦ elim (lower m i) [
             | inl h₂ ↦ o m i x y h₂ l d e
             | inr h₂ ↦ let same : m ≡ i = omega arith in let both : x ≡ y = cc in rw both (le-refl (y .0))
           ]
         ]
 
-    go : Searched p n → (x : FilterNumber) × (first p n ≡ Filter x) × (x .0 ≤ y .0)
-    go (nowhere s q) = no-hit-is-none (q i l) e
+    go : FirstOfRow p n → (x : FilterNumber) × (first p n ≡ Filter x) × (x .0 ≤ y .0)
+    go (nowhere s q) = nothing-no-filter (q i l) e
     go (at m x h d s q) = (x, s, after m x d q)
 
 -- ---- the filters of a bank

@@ -11,15 +11,14 @@ use lib.Dec.{eqb}
 use lib.ListN.{getD}
 use Rattle.model.specs.Base.{pick, bit, sum}
 use Rattle.model.specs.Banks.{bank, filterNumber, classOf, rank, width, matches, belongs, share, firstNumber}
-use Rattle.model.specs.Search.{first, searched, tried, hitAt, hitIn, firstHit}
+use Rattle.model.specs.Search.{searched, tried, hitAt, hitIn, firstHit}
 use Rattle.model.specs.declared.Filters.{Filters}
 use Rattle.model.specs.declared.FilterClass.{FilterClass}
 use Rattle.model.specs.declared.FilterClass.the-variants.{List32, Mask32, List16, Mask16}
 use Rattle.model.specs.declared.Fifo.{Fifo}
 use Rattle.model.specs.declared.FilterNumber.{FilterNumber}
-use Rattle.model.specs.declared.Hit.{Hit}
 use Rattle.model.specs.declared.Hit.the-variants.{Filter, Nothing}
-use Rattle.model.proofs.FirstHit.{Searched, nowhere, at, search-row, Ascending, first-lowest, no-hit-is-none, filter-within, hit}
+use Rattle.model.proofs.FirstHit.{FirstOfRow, nowhere, at, first-of-row, Ascending, first-lowest, nothing-no-filter, filter-within, hit}
 
 -- bank i, one of n, is active, in FIFO f and of class k, and its filter j takes a frame with the identifier word w
 pub record ActiveMatch (n : ℕ) (g : Filters) (v : List ℕ) (w : ℕ) (k : FilterClass) (f : Fifo) (i j : ℕ) : Type 0 where
@@ -105,15 +104,15 @@ module _ (n : ℕ) (g : Filters) (v : List ℕ) (w : ℕ) (k : FilterClass) (f :
     where
       go : (b : Bool) → pick b (Filter (numberOf n g f i j)) Nothing ≡ Filter x → (b ≡ true) × (x ≡ numberOf n g f i j)
       go true e = (refl, cc)
-      go false e = no-hit-is-none refl e
+      go false e = nothing-no-filter refl e
 
   bank-hit : (i : ℕ) (x : FilterNumber) → hitIn n g v w k f i ≡ Filter x
       → (j : ℕ) × (j < tried g k f i) × (hitAt n g v w k f i j ≡ Filter x)
   unfolding hitIn
-  bank-hit i x e = go (search-row (hitAt n g v w k f i) (tried g k f i))
+  bank-hit i x e = go (first-of-row (hitAt n g v w k f i) (tried g k f i))
     where
-      go : Searched (hitAt n g v w k f i) (tried g k f i) → (j : ℕ) × (j < tried g k f i) × (hitAt n g v w k f i j ≡ Filter x)
-      go (nowhere s q) = no-hit-is-none s e
+      go : FirstOfRow (hitAt n g v w k f i) (tried g k f i) → (j : ℕ) × (j < tried g k f i) × (hitAt n g v w k f i j ≡ Filter x)
+      go (nowhere s q) = nothing-no-filter s e
       go (at j y l d s q) = (j, l, cc)
 
   number-in-bank : (i : ℕ) (x : FilterNumber) → hitIn n g v w k f i ≡ Filter x
@@ -141,10 +140,10 @@ module _ (n : ℕ) (g : Filters) (v : List ℕ) (w : ℕ) (k : FilterClass) (f :
   pub first-hit-active : (x : FilterNumber) → firstHit n g v w k f ≡ Filter x
       → (i : ℕ) × (j : ℕ) × ActiveMatch n g v w k f i j × (x ≡ numberOf n g f i j)
   unfolding firstHit
-  first-hit-active x e = go (search-row (hitIn n g v w k f) n)
+  first-hit-active x e = go (first-of-row (hitIn n g v w k f) n)
     where
-      go : Searched (hitIn n g v w k f) n → (i : ℕ) × (j : ℕ) × ActiveMatch n g v w k f i j × (x ≡ numberOf n g f i j)
-      go (nowhere s q) = no-hit-is-none s e
+      go : FirstOfRow (hitIn n g v w k f) n → (i : ℕ) × (j : ℕ) × ActiveMatch n g v w k f i j × (x ≡ numberOf n g f i j)
+      go (nowhere s q) = nothing-no-filter s e
       go (at i y l d s q) =
           let b = bank-hit i x (cc) in
           let s = searched-is g k f i (tried-searched g k f i (b .0) (b .1)) in

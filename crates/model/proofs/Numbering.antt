@@ -77,8 +77,8 @@ module _ (g : Filters) (f : Fifo) (ha : g .assignment < 2 ^ 32) (hs : g .scale <
       (by-digits (own f g / 2 ^ j % 2) (g .mode / 2 ^ j % 2) (g .scale / 2 ^ j % 2) (omega arith) (omega arith) (omega arith))
 
   -- the four counts are the numbers that the i lowest banks take
-  pub counts : (i : ℕ) → i ≤ 32 → fourCounts i g f ≡ sum (share f g) i
-  counts i l =
+  pub counts-are-sum : (i : ℕ) → i ≤ 32 → fourCounts i g f ≡ sum (share f g) i
+  counts-are-sum i l =
       rw (
         ones-below i (own f g),
         ones-below i (bitAnd (own f g) (g .mode)),
@@ -87,16 +87,17 @@ module _ (g : Filters) (f : Fifo) (ha : g .assignment < 2 ^ 32) (hs : g .scale <
       )
       (four-sums _ _ _ _ _ i (λ j h. one-bank j (omega arith)))
 
-  -- of n banks, at most 32: the number of the first filter of any bank, which past the last bank stays
-  pub first-number : (n i : ℕ) → n ≤ 32 → firstNumber n g f (bank i) .0 ≡ fourCounts (banksBelow n i) g f
+  -- the number of a bank's first filter, of n banks, is the four counts of ones below the bank; a bank past the last counts as if it
+  -- came next
+  pub first-number-from-counts : (n i : ℕ) → n ≤ 32 → firstNumber n g f (bank i) .0 ≡ fourCounts (banksBelow n i) g f
   unfolding firstNumber
-  first-number n i l = sym (counts (banksBelow n i) (omega (arith, banks-below-le n i)))
+  first-number-from-counts n i l = sym (counts-are-sum (banksBelow n i) (omega (arith, banks-below-le n i)))
 
-  -- the same of a bank that is one of the n
-  pub first-number-of-bank : (n i : ℕ) → n ≤ 32 → i < n → firstNumber n g f (bank i) .0 ≡ fourCounts i g f
-  first-number-of-bank n i l h = first-number n i l ∙ ap (λ (m : ℕ). fourCounts m g f) (rw (lt-ltb i n h))
+  -- so for a bank that is one of the n it is the ones below its own place
+  pub first-number-within : (n i : ℕ) → n ≤ 32 → i < n → firstNumber n g f (bank i) .0 ≡ fourCounts i g f
+  first-number-within n i l h = first-number-from-counts n i l ∙ ap (λ (m : ℕ). fourCounts m g f) (rw (lt-ltb i n h))
 
--- 14 banks, all with 16-bit lists in FIFO 0: bank 13 begins at 52
-pub last-of-14 : firstNumber 14 (record { mode = 0x3fff; scale = 0; assignment = 0; activation = 0; finit = false }) F0 (bank 13) ≡ filterNumber 52
+-- 14 banks, all with 16-bit lists in FIFO 0: bank 13 starts at 52
+pub bank-13-starts-at-52 : firstNumber 14 (record { mode = 0x3fff; scale = 0; assignment = 0; activation = 0; finit = false }) F0 (bank 13) ≡ filterNumber 52
 unfolding firstNumber sum classOf
-last-of-14 = refl
+bank-13-starts-at-52 = refl

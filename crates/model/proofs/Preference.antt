@@ -1,6 +1,6 @@
 -- The choice among classes, of any type: the winner is one of the hits, and no hit comes before it by class, number, FIFO.
 -- Assumes nothing.
-use mathlib.Core.Path.{_≡_, refl, sym, ap, _∙_}
+use mathlib.Core.Path.{_≡_, refl, ap, _∙_}
 use mathlib.Core.Bool.{Bool, true, false}
 use mathlib.Core.List.{List, [], _∷_}
 use mathlib.Core.Logic.{_⊎_, inl, inr, _↔_}
@@ -10,6 +10,7 @@ use native.Mathlib.Omega.{arith}
 use borrow.Author.Tests.{ltb-true, ltb-false}
 use lib.Dec.{ltb}
 use Rattle.model.specs.Base.{pick}
+use Rattle.model.specs.Banks.{filterNumber}
 use Rattle.model.specs.Search.{better, orNext, chosen}
 use Rattle.model.specs.declared.Fifo.{Fifo}
 use Rattle.model.specs.declared.Fifo.the-variants.{F0, F1}
@@ -18,10 +19,11 @@ use Rattle.model.specs.declared.Hit.{Hit}
 use Rattle.model.specs.declared.Hit.the-variants.{Filter, Nothing}
 use Rattle.model.specs.declared.Acceptance.{Acceptance}
 use Rattle.model.specs.declared.Acceptance.the-variants.{Into, Rejected}
-use Rattle.model.proofs.FirstHit.{no-hit-is-none}
+use Rattle.model.proofs.FirstHit.{nothing-no-filter}
 
 -- ---- the order of preference
 
+-- FIFO 0 before FIFO 1
 abbrev pub fifoNumber : Fifo → ℕ
 fifoNumber F0 = 0
 fifoNumber F1 = 1
@@ -34,12 +36,29 @@ NumberNoLater x f y e = (x .0 < y .0) ⊎ ((x .0 ≡ y .0) × (fifoNumber f ≤ 
 abbrev pub NoLater : ℕ → FilterNumber → Fifo → ℕ → FilterNumber → Fifo → Type 0
 NoLater r x f s y e = (r < s) ⊎ ((r ≡ s) × NumberNoLater x f y e)
 
--- a hit with a higher number may stand in for y
+-- what comes no later than a hit comes no later than one with a higher number
 pub no-later-than-higher : (r s : ℕ) (x y z : FilterNumber) (f e : Fifo) → NoLater r x f s y e → y .0 ≤ z .0 → NoLater r x f s z e
 no-later-than-higher r s x y z f e (inl p) l = inl p
 no-later-than-higher r s x y z f e (inr (p, inl q)) l = inr (p, inl (omega arith))
 no-later-than-higher r s x y z f e (inr (p, inr q)) l =
     inr (p, elim (eq-or-lt-of-le l) [ inl t ↦ inr (q .0 ∙ t, q .1) | inr t ↦ inl (omega (arith, q .0)) ])
+
+fifo-injective : (f e : Fifo) → fifoNumber f ≡ fifoNumber e → f ≡ e
+fifo-injective F0 F0 h = refl
+fifo-injective F1 F1 h = refl
+fifo-injective F0 F1 h = absurd (omega arith)
+fifo-injective F1 F0 h = absurd (omega arith)
+
+-- of two hits neither of which comes later, number and FIFO are the same
+pub no-later-both-ways : (r s : ℕ) (x y : FilterNumber) (f e : Fifo) → NoLater r x f s y e → NoLater s y e r x f → (f ≡ e) × (x ≡ y)
+no-later-both-ways r s x y f e (inr (p, inr a)) (inr (q, inr b)) = (fifo-injective f e (omega arith), ap filterNumber (a .0))
+no-later-both-ways r s x y f e (inr (p, inr a)) (inr (q, inl b)) = absurd (omega arith)
+no-later-both-ways r s x y f e (inr (p, inr a)) (inl q) = absurd (omega arith)
+no-later-both-ways r s x y f e (inr (p, inl a)) (inr (q, inr b)) = absurd (omega arith)
+no-later-both-ways r s x y f e (inr (p, inl a)) (inr (q, inl b)) = absurd (omega arith)
+no-later-both-ways r s x y f e (inr (p, inl a)) (inl q) = absurd (omega arith)
+no-later-both-ways r s x y f e (inl p) (inr q) = absurd (omega (arith, q .0))
+no-later-both-ways r s x y f e (inl p) (inl q) = absurd (omega arith)
 
 -- ---- one class: t f is its hit in FIFO f
 
@@ -84,9 +103,9 @@ module _ (t : Fifo → Hit) where
   better-wins : (a b : Hit) → t F0 ≡ a → t F1 ≡ b → (f : Fifo) (x : FilterNumber) → better a b ≡ Into f x → Better t f x
   better-wins (Filter u) (Filter z) p q f x w = of-two u z (ltb (z .0) (u .0)) p q refl f x w
   better-wins (Filter u) Nothing p q f x w =
-      let e : F0 ≡ f = cc in let s : u ≡ x = cc in rw (← e, ← s) (against F0 u p (λ y d. no-hit-is-none q d))
+      let e : F0 ≡ f = cc in let s : u ≡ x = cc in rw (← e, ← s) (against F0 u p (λ y d. nothing-no-filter q d))
   better-wins Nothing (Filter z) p q f x w =
-      let e : F1 ≡ f = cc in let s : z ≡ x = cc in rw (← e, ← s) (against F1 z q (λ y d. no-hit-is-none p d))
+      let e : F1 ≡ f = cc in let s : z ≡ x = cc in rw (← e, ← s) (against F1 z q (λ y d. nothing-no-filter p d))
   better-wins Nothing Nothing p q f x w = let z : _≡_ {A = ℕ} 0 1 = cc in absurd (omega arith)
 
   better-none : (a b : Hit) → t F0 ≡ a → t F1 ≡ b → better a b ≡ Rejected → (e : Fifo) → t e ≡ Nothing
@@ -128,7 +147,7 @@ module _ {K : Type 0} (h : K → Fifo → Hit) where
 
   in-later : (a : K) (l : List K) (f : Fifo) (x : FilterNumber) → ((e : Fifo) → h a e ≡ Nothing) → (b : Best h l f x)
       → (s : ℕ) (k : K) (e : Fifo) (y : FilterNumber) → Place (a ∷ l) s k → h k e ≡ Filter y → NoLater (suc (b .rank)) x f s y e
-  in-later a l f x q b s k e y here d = no-hit-is-none (q e) d
+  in-later a l f x q b s k e y here d = nothing-no-filter (q e) d
   in-later a l f x q b s k e y (there p) d =
       elim (b .noLater _ k e y p d) [ inl o ↦ inl (omega arith) | inr o ↦ inr (ap suc (o .0), o .1) ]
 
@@ -169,5 +188,5 @@ module _ {K : Type 0} (h : K → Fifo → Hit) where
   no-hits-rejected (a ∷ l) q = rw (q 0 a F0 here, q 0 a F1 here) (no-hits-rejected l (λ s k e p. q (suc s) k e (there p)))
 
   -- it is rejected exactly when no class has a hit in either FIFO
-  pub rejected : (l : List K) → (chosen h l ≡ Rejected) ↔ NoHits l
-  rejected l = (rejected-no-hits l, no-hits-rejected l)
+  pub rejected-iff-no-hits : (l : List K) → (chosen h l ≡ Rejected) ↔ NoHits l
+  rejected-iff-no-hits l = (rejected-no-hits l, no-hits-rejected l)
