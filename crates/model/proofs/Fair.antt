@@ -221,7 +221,7 @@ module _ (low : ℕ) (small : low < 2 ^ 26) (a b c : Bool) (x y z : ℕ) where
   bit-28 : word / 2 ^ 28 % 2 ≡ one c
   bit-28 = omega (arith, one-le a, one-le b, one-le c)
 
-one-bit : (n : ℕ) (a : Bool) → n ≡ one a → eqb n 1 ≡ a
+pub one-bit : (n : ℕ) (a : Bool) → n ≡ one a → eqb n 1 ≡ a
 one-bit n true e = eq-eqb n 1 e
 one-bit n false e = ne-eqb n 1 (λ q. omega arith)
 

@@ -251,7 +251,7 @@ pub end-accepted : (a b : Bool) → eqb (pick a 5 (pick b 0 4)) 0 ≡ true → b
 end-accepted true b h = absurd (false≢true h)
 end-accepted false b h = start-accepted b h
 
-may-end : (c : Core) (r : ℕ) → Is (mayEnd c r) → Is (not (isFree c))
+pub may-end : (c : Core) (r : ℕ) → Is (mayEnd c r) → Is (not (isFree c))
 unfolding mayEnd
 may-end c r h = and-l (not (isFree c)) (not (eqb r 3 && lbkm (c .control))) h
 

@@ -16,3 +16,4 @@ pub mod LowestNumber
 pub mod Preference
 pub mod Acceptances
 pub mod FilterNumbers
+pub mod ErrorCounting
