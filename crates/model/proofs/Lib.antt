@@ -17,3 +17,4 @@ pub mod Preference
 pub mod Acceptances
 pub mod FilterNumbers
 pub mod ErrorCounting
+pub mod Exampled

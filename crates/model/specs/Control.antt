@@ -56,6 +56,12 @@ isNormal Sleep = false
 isNormal Initialization = false
 isNormal Normal = true
 
+-- the mode as MSR shows it: INAK and SLAK
+abbrev pub modeBits : Mode → ℕ
+modeBits Normal = 0
+modeBits Initialization = 1
+modeBits Sleep = 2
+
 -- ---- error state ("Bus events", last paragraph)
 
 abbrev pub ewgf : Errors → Bool
@@ -165,8 +171,7 @@ esrWritten e w = record { tec = e .tec; rec = e .rec; lec = pick (eqb (bits 4 3 
 -- INAK, SLAK, ERRI, WKUI, SLAKI; TXM with an own frame on the wire; RX and SAMP read 1
 unfoldable pub msrWord : Control → Bool → ℕ
 msrWord k free =
-    one (isInitialization (k .mode)) + one (isSleep (k .mode)) * 2 + one (k .erri) * 4 + one (k .wkui) * 8 + one (k .slaki) * 16
-    + one (not free) * 256 + 0xC00
+    modeBits (k .mode) + one (k .erri) * 4 + one (k .wkui) * 8 + one (k .slaki) * 16 + one (not free) * 256 + 0xC00
 
 -- EWGF, EPVF, BOFF, LEC, the low byte of TEC, REC
 unfoldable pub esrWord : Errors → ℕ

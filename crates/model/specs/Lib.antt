@@ -13,3 +13,4 @@ pub mod Script
 pub mod Reachable
 pub mod Codes
 pub mod History
+pub mod Examples

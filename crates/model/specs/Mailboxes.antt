@@ -114,8 +114,9 @@ sentIdentifier ti = pick (bit 2 ti) ti (ti / 2 ^ 21 * 2 ^ 21 + bits 1 1 ti * 2)
 -- then data before remote
 unfoldable pub wireKey : ℕ → ℕ
 wireKey ti =
-    bits 21 11 ti * 2 ^ 21
-    + pick (bit 2 ti) (2 ^ 20 + bits 3 18 ti * 2 + bits 1 1 ti) (bits 1 1 ti * 2 ^ 19)
+    pick (bit 2 ti)
+    (bits 21 11 ti * 2 ^ 21 + 2 ^ 20 + bits 3 18 ti * 2 + bits 1 1 ti)
+    (bits 21 11 ti * 2 ^ 21 + bits 1 1 ti * 2 ^ 19)
 
 abbrev pub identifiers : Mailboxes → Identifiers
 identifiers b = record { m0 = b .m0 .ti; m1 = b .m1 .ti; m2 = b .m2 .ti }
