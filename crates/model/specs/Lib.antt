@@ -10,4 +10,5 @@ pub mod Step
 pub mod Requests
 pub mod Fairness
 pub mod Script
+pub mod Scripts
 pub mod Reachable
