@@ -1,0 +1,178 @@
+-- One record of a script: the codes of a step are at most 5, and the codes 6 to 9 are given exactly when document 01 says.
+use mathlib.Core.Bool.{Bool, true, false, not, _&&_, _||_, true≢false, false≢true}
+use mathlib.Core.Path.{_≡_, refl, sym, ap, _∙_, subst}
+use mathlib.Core.List.{List}
+use Prim.Native.Nat.{ℕ, _+_, _-_, _≤_, _<_}
+use native.Mathlib.Omega.{arith}
+use lib.Dec.{eqb, ltb, leb}
+use lib.ListN.{length}
+use borrow.Author.Tests.{ltb-true, ltb-false, leb-true, leb-false, lt-leb, ne-eqb}
+use Rattle.model.specs.Base.{pick, bit}
+use Rattle.model.specs.Registers.{registerAt, isAbsent, isFree, hasRequest, writeRefusal}
+use Rattle.model.specs.Reception.{malformed}
+use Rattle.model.specs.Control.{isSleep, isInitialization}
+use Rattle.model.specs.Step.{mayStart, mayEnd, mayReceive, faultInRange, refusal, answered, step}
+use Rattle.model.specs.Script.{byteAt, bodyLength, reading, stayed, atEnd, passed, replayed, record1, stops}
+use Rattle.model.specs.Scripts.{isEnd, noSpace, headerShort, tagUnknown, lengthWrong, bodyShort, behind, stepAt, RecordCodes}
+use Rattle.model.specs.declared.Core.{Core}
+use Rattle.model.specs.declared.Controller.{Controller}
+use Rattle.model.specs.declared.Stepped.{Stepped}
+use Rattle.model.specs.declared.Register.{Register}
+use Rattle.model.specs.declared.Register.the-variants.{Mcr, Msr, Tsr, Rfr, Ier, Esr, Btr, Ti, Tdt, Tdl, Tdh, Ri, Rdt, Rdl, Rdh, Fmr, Fm1r, Fs1r, Ffa1r, Fa1r, R1, R2, Absent}
+use Rattle.model.specs.declared.Reading.{Reading}
+use Rattle.model.specs.declared.Reading.the-variants.{End, Malformed, Found}
+use Rattle.model.specs.declared.Replayed.{Replayed}
+use Rattle.model.specs.declared.Step as steps
+use Rattle.model.specs.declared.Step.the-variants.{Reset, Read, Write, Idle, BitTimes, Activity, Start, Outcome, Receive, ReceiveError}
+
+-- ---- the codes of a step
+
+both-small : (b : Bool) (m n : ℕ) → leb m 5 ≡ true → leb n 5 ≡ true → leb (pick b m n) 5 ≡ true
+both-small true m n h l = h
+both-small false m n h l = l
+
+write-small : (r : Register) (c : Core) → leb (writeRefusal r c) 5 ≡ true
+unfolding writeRefusal
+write-small Mcr c = refl
+write-small Msr c = refl
+write-small Tsr c = refl
+write-small (Rfr f) c = refl
+write-small Ier c = refl
+write-small Esr c = refl
+write-small Btr c = both-small (isInitialization (c .control .mode)) 0 2 refl refl
+write-small (Ti m) c = both-small (hasRequest c m) 2 0 refl refl
+write-small (Tdt m) c = both-small (hasRequest c m) 2 0 refl refl
+write-small (Tdl m) c = both-small (hasRequest c m) 2 0 refl refl
+write-small (Tdh m) c = both-small (hasRequest c m) 2 0 refl refl
+write-small (Ri f) c = refl
+write-small (Rdt f) c = refl
+write-small (Rdl f) c = refl
+write-small (Rdh f) c = refl
+write-small Fmr c = refl
+write-small Fm1r c = both-small (c .filters .finit) 0 2 refl refl
+write-small Fs1r c = both-small (c .filters .finit) 0 2 refl refl
+write-small Ffa1r c = both-small (c .filters .finit) 0 2 refl refl
+write-small Fa1r c = refl
+write-small (R1 b) c = both-small (not (c .filters .finit) && bit (b .0) (c .filters .activation)) 2 0 refl refl
+write-small (R2 b) c = both-small (not (c .filters .finit) && bit (b .0) (c .filters .activation)) 2 0 refl refl
+write-small Absent c = refl
+
+event-small : (b : Bool) → leb (pick b 0 4) 5 ≡ true
+event-small b = both-small b 0 4 refl refl
+
+step-small : (c : Core) (e : steps.Step) → leb (refusal c e) 5 ≡ true
+unfolding refusal
+step-small c Reset = refl
+step-small c (Read o) = both-small (isAbsent (registerAt o)) 1 0 refl refl
+step-small c (Write o w) = write-small (registerAt o) c
+step-small c Idle = event-small (isFree c)
+step-small c (BitTimes n) = both-small (leb 1 n && leb n 65535) 0 5 refl refl
+step-small c Activity = event-small (isSleep (c .control .mode))
+step-small c Start = event-small (mayStart c)
+step-small c (Outcome r) = both-small (ltb 7 r) 5 (pick (mayEnd c r) 0 4) refl (event-small (mayEnd c r))
+step-small c (Receive x) = both-small (malformed x) 5 (pick (mayReceive c) 0 4) refl (event-small (mayReceive c))
+step-small c (ReceiveError k n) = both-small (faultInRange k n) (pick (mayReceive c) 0 4) 5 (event-small (mayReceive c)) refl
+
+-- a step never gives the codes 6 to 9
+pub refusal-small : (c : Core) (e : steps.Step) → refusal c e ≤ 5
+refusal-small c e = leb-true (refusal c e) 5 (step-small c e)
+
+pub code-small : (z : Controller) (e : steps.Step) → step z e .code ≤ 5
+unfolding step answered
+code-small z e = refusal-small (z .core) e
+
+-- ---- the order in which a record is looked at
+
+abbrev ordered : (e a h t w b : Bool) → Controller → ℕ → ℕ → Stepped → ℕ → Replayed
+ordered e a h t w b z n p x q =
+    pick e (atEnd z n)
+    (pick a (stayed z p 9)
+    (pick h (stayed z p 6)
+    (pick t (stayed z p 7)
+    (pick w (stayed z p 8)
+    (pick b (stayed z p 6)
+    (passed x q))))))
+
+in-order : (e a h t w b : Bool) (z : Controller) (n p space : ℕ) (d : steps.Step) (q : ℕ) → ltb space 9 ≡ a
+    → replayed (pick e End (pick h (Malformed 6) (pick t (Malformed 7) (pick w (Malformed 8) (pick b (Malformed 6) (Found d q)))))) z n p space
+    ≡ ordered e a h t w b z n p (step z d) q
+unfolding replayed
+in-order true a h t w b z n p space d q k = refl
+in-order false true true t w b z n p space d q k = rw k
+in-order false true false true w b z n p space d q k = rw k
+in-order false true false false true b z n p space d q k = rw k
+in-order false true false false false true z n p space d q k = rw k
+in-order false true false false false false z n p space d q k = rw k
+in-order false false true t w b z n p space d q k = rw k
+in-order false false false true w b z n p space d q k = rw k
+in-order false false false false true b z n p space d q k = rw k
+in-order false false false false false true z n p space d q k = rw k
+in-order false false false false false false z n p space d q k = rw k
+
+record-in-order : (z : Controller) (s : List ℕ) (p space : ℕ)
+    → record1 z s p space ≡ ordered (isEnd s p) (noSpace space) (headerShort s p) (tagUnknown s p) (lengthWrong s p) (bodyShort s p) z (length s) p (step z (stepAt s p)) (behind s p)
+unfolding record1 reading
+record-in-order z s p space =
+    in-order (isEnd s p) (noSpace space) (headerShort s p) (tagUnknown s p) (lengthWrong s p) (bodyShort s p) z (length s) p space (stepAt s p) (behind s p) refl
+
+-- ---- the table
+
+record Table (e a h t w b : Bool) (z : Controller) (n p : ℕ) (x : Stepped) (q : ℕ) (r : Replayed) : Type 0 where
+  ends : r .ended ≡ e
+  code9 : eqb (r .code) 9 ≡ (not e && a)
+  code6 : eqb (r .code) 6 ≡ (not e && not a && (h || (not t && not w && b)))
+  code7 : eqb (r .code) 7 ≡ (not e && not a && not h && t)
+  code8 : eqb (r .code) 8 ≡ (not e && not a && not h && not t && w)
+  unanswered : stops (r .ended) (r .code) ≡ true → r ≡ pick e (atEnd z n) (stayed z p (r .code))
+  answered : stops (r .ended) (r .code) ≡ false → r ≡ passed x q
+  ownCode : stops (r .ended) (r .code) ≡ false → r .code ≤ 5
+
+-- a row of a record that is not answered
+row : {e a h t w b : Bool} {z : Controller} {n p : ℕ} {x : Stepped} {q : ℕ} {r : Replayed}
+    → r .ended ≡ e → eqb (r .code) 9 ≡ (not e && a) → eqb (r .code) 6 ≡ (not e && not a && (h || (not t && not w && b)))
+    → eqb (r .code) 7 ≡ (not e && not a && not h && t) → eqb (r .code) 8 ≡ (not e && not a && not h && not t && w)
+    → stops (r .ended) (r .code) ≡ true → r ≡ pick e (atEnd z n) (stayed z p (r .code)) → Table e a h t w b z n p x q r
+row f k9 k6 k7 k8 k u = record {
+  ends = f;
+  code9 = k9;
+  code6 = k6;
+  code7 = k7;
+  code8 = k8;
+  unanswered = λ _. u;
+  answered = λ l. absurd (true≢false (sym k ∙ l));
+  ownCode = λ l. absurd (true≢false (sym k ∙ l));
+}
+
+table : (e a h t w b : Bool) (z : Controller) (n p : ℕ) (x : Stepped) (q : ℕ) → x .code ≤ 5 → Table e a h t w b z n p x q (ordered e a h t w b z n p x q)
+table true a h t w b z n p x q l = row refl refl refl refl refl refl refl
+table false true h t w b z n p x q l = row refl refl refl refl refl refl refl
+table false false true t w b z n p x q l = row refl refl refl refl refl refl refl
+table false false false true w b z n p x q l = row refl refl refl refl refl refl refl
+table false false false false true b z n p x q l = row refl refl refl refl refl refl refl
+table false false false false false true z n p x q l = row refl refl refl refl refl refl refl
+table false false false false false false z n p x q l = record {
+  ends = refl;
+  code9 = ne-eqb (x .code) 9 (λ e. omega arith);
+  code6 = ne-eqb (x .code) 6 (λ e. omega arith);
+  code7 = ne-eqb (x .code) 7 (λ e. omega arith);
+  code8 = ne-eqb (x .code) 8 (λ e. omega arith);
+  unanswered = λ k. absurd (false≢true (rw (lt-leb 6 (x .code) (omega arith)) at k));
+  answered = λ k. refl;
+  ownCode = λ k. l;
+}
+
+
+pub recordCodes : (z : Controller) (s : List ℕ) (p space : ℕ) → RecordCodes z s p space
+recordCodes z s p space = record {
+  ends = t .ends;
+  code9 = t .code9;
+  code6 = t .code6;
+  code7 = t .code7;
+  code8 = t .code8;
+  unanswered = t .unanswered;
+  answered = t .answered;
+  ownCode = t .ownCode;
+}
+  where
+    t : Table (isEnd s p) (noSpace space) (headerShort s p) (tagUnknown s p) (lengthWrong s p) (bodyShort s p) z (length s) p (step z (stepAt s p)) (behind s p) (record1 z s p space)
+    t = rw (record-in-order z s p space) (table (isEnd s p) (noSpace space) (headerShort s p) (tagUnknown s p) (lengthWrong s p) (bodyShort s p) z (length s) p (step z (stepAt s p)) (behind s p) (code-small z (stepAt s p)))
