@@ -1,3 +1,4 @@
 pub mod Computed
 pub mod Readings
+pub mod Replays
 pub mod Example

@@ -1,0 +1,247 @@
+-- A replay is the fold of the step: one round after another, up to the record at which it stops.
+use mathlib.Core.Bool.{Bool, true, false, not, _&&_, _||_, true≢false, false≢true}
+use mathlib.Core.Path.{_≡_, refl, sym, ap, _∙_, subst}
+use mathlib.Core.List.{List, [], _∷_, _++_, append-assoc}
+use Prim.Native.Nat.{ℕ, zero, suc, _+_, _-_, _*_, _/_, _≤_, _<_}
+use native.Mathlib.Nat.{add-zero, add-suc, zero-add, sub-zero}
+use native.Mathlib.Omega.{arith}
+use lib.Dec.{eqb, ltb, leb}
+use lib.ListN.{length, take, length-append}
+use lib.Seq.{take-nil}
+use borrow.Author.Tests.{ltb-true, ltb-false, leb-true, leb-false, lt-leb, le-leb, lt-ltb, le-ltb, eq-eqb, ne-eqb}
+use Rattle.model.specs.Base.{pick, one}
+use Rattle.model.specs.Step.{step}
+use Rattle.model.specs.Requests.{after}
+use Rattle.model.specs.Script.{byteAt, bodyLength, isTag, number16, decoded, part, reading, reply, stayed, atEnd, passed, replayed, record1, replyOf, stops, Progress, begun, afterRecord, advanced, times, replay, stepsBy, stepsFrom, stepsOf, repliesTo}
+use Rattle.model.specs.Scripts.{isEnd, headerShort, tagUnknown, lengthWrong, bodyShort, behind, stepAt, answeredSteps, lastAnswer, placeBy, placeAfter, FoldsSteps, StopsBehind, RecordCodes}
+use Rattle.model.specs.Scripts as statements
+use Rattle.model.specs.declared.Controller.{Controller}
+use Rattle.model.specs.declared.Reading.{Reading}
+use Rattle.model.specs.declared.Reading.the-variants.{End, Malformed, Found}
+use Rattle.model.specs.declared.Replayed.{Replayed}
+use Rattle.model.specs.declared.Stepped.{Stepped}
+use Rattle.model.specs.declared.Step as steps
+use Rattle.model.proofs.Readings.{code-small, recordCodes}
+
+-- ---- what a reading says of the place
+
+data Look (s : List ℕ) (p : ℕ) : Reading → Type 0 where
+  over : length s ≤ p → Look s p End
+  short : p < length s → Look s p (Malformed 6)
+  unknown : p < length s → Look s p (Malformed 7)
+  wrong : p < length s → Look s p (Malformed 8)
+  whole : (e : steps.Step) (q : ℕ) → p + 3 ≤ q → q ≤ length s → Look s p (Found e q)
+
+pick-cases : {A : Type 0} (P : A → Type 0) (b : Bool) (x y : A) → (b ≡ true → P x) → (b ≡ false → P y) → P (pick b x y)
+pick-cases P true x y f g = f refl
+pick-cases P false x y f g = g refl
+
+look : (s : List ℕ) (p : ℕ) → Look s p (reading s p)
+unfolding reading
+look s p =
+    pick-cases (Look s p) (isEnd s p) _ _ (λ h. over (leb-true (length s) p h))
+    (λ h. let l : p < length s = leb-false (length s) p h in
+    pick-cases (Look s p) (headerShort s p) _ _ (λ _. short l)
+    (λ _. pick-cases (Look s p) (tagUnknown s p) _ _ (λ _. unknown l)
+    (λ _. pick-cases (Look s p) (lengthWrong s p) _ _ (λ _. wrong l)
+    (λ _. pick-cases (Look s p) (bodyShort s p) _ _ (λ _. short l)
+    (λ k. whole (stepAt s p) (behind s p) (omega arith) (omega (arith, ltb-false (length s - p) (3 + bodyLength (byteAt s p)) k)))))))
+
+-- ---- rounds
+
+times-front : {A : Type 0} (n : ℕ) (f : A → A) (x : A) → times n f (f x) ≡ f (times n f x)
+unfolding times
+times-front zero f x = refl
+times-front (suc n) f x = ap f (times-front n f x)
+
+times-fixed : {A : Type 0} (n : ℕ) (f : A → A) (x : A) → f x ≡ x → times n f x ≡ x
+unfolding times
+times-fixed zero f x h = refl
+times-fixed (suc n) f x h = ap f (times-fixed n f x h) ∙ h
+
+times-more : {A : Type 0} (n k : ℕ) (f : A → A) (x : A) → f (times n f x) ≡ times n f x → times (n + k) f x ≡ times n f x
+unfolding times
+times-more n zero f x h = rw add-zero
+times-more n (suc k) f x h = rw add-suc (ap f (times-more n k f x h) ∙ h)
+
+-- ---- the steps of a script: more than enough rounds change nothing
+
+steps-none : {s : List ℕ} {p : ℕ} {r : Reading} (f : ℕ → List steps.Step) → length s - p ≤ 0 → Look s p r → stepsBy r f ≡ []
+unfolding stepsBy
+steps-none f h (over l) = refl
+steps-none f h (short l) = refl
+steps-none f h (unknown l) = refl
+steps-none f h (wrong l) = refl
+steps-none f h (whole e q l m) = absurd (omega arith)
+
+steps-same : {s : List ℕ} {p : ℕ} {r : Reading} (n : ℕ) (f g : ℕ → List steps.Step) → length s - p ≤ suc n → ((q : ℕ) → length s - q ≤ n → f q ≡ g q) → Look s p r → stepsBy r f ≡ stepsBy r g
+unfolding stepsBy
+steps-same n f g h k (over l) = refl
+steps-same n f g h k (short l) = refl
+steps-same n f g h k (unknown l) = refl
+steps-same n f g h k (wrong l) = refl
+steps-same n f g h k (whole e q l m) = ap (λ (x : List steps.Step). e ∷ x) (k q (omega arith))
+
+pub steps-more : (n : ℕ) (s : List ℕ) (p : ℕ) → length s - p ≤ n → stepsFrom (suc n) s p ≡ stepsFrom n s p
+unfolding stepsFrom
+steps-more zero s p h = steps-none (stepsFrom 0 s) h (look s p)
+steps-more (suc n) s p h = steps-same n (stepsFrom (suc n) s) (stepsFrom n s) h (λ q l. steps-more n s q l) (look s p)
+
+-- ---- places
+
+place-within-by : {s : List ℕ} {p : ℕ} {r : Reading} (f : ℕ → ℕ) → p ≤ length s → ((q : ℕ) → q ≤ length s → f q ≤ length s) → Look s p r → placeBy r p f ≤ length s
+unfolding placeBy
+place-within-by f h k (over l) = h
+place-within-by f h k (short l) = h
+place-within-by f h k (unknown l) = h
+place-within-by f h k (wrong l) = h
+place-within-by f h k (whole e q l m) = k q m
+
+pub place-within : (n : ℕ) (s : List ℕ) (p : ℕ) → p ≤ length s → placeAfter n s p ≤ length s
+unfolding placeAfter
+place-within zero s p h = h
+place-within (suc n) s p h = place-within-by (placeAfter n s) h (λ q l. place-within n s q l) (look s p)
+
+-- ---- one round
+
+reply-length : (k l w : ℕ) → length (reply k l w) ≡ 9
+unfolding reply
+reply-length k l w = refl
+
+-- a record that is answered: one more, and nine bytes more
+abbrev further : Progress → Stepped → ℕ → Progress
+further x a q = record {
+  result = record {
+    controller = a .controller;
+    place = q;
+    records = x .result .records + 1;
+    written = x .result .written + 9;
+    ended = false;
+    code = a .code;
+    lines = a .lines;
+    word = a .word;
+  };
+  replies = x .replies ++ reply (a .code) (a .lines) (a .word);
+}
+
+own-goes : (k : ℕ) → k ≤ 5 → stops false k ≡ false
+own-goes k h = rw (lt-leb 6 k (omega arith))
+
+further-is : (x : Progress) (a : Stepped) (q : ℕ) → a .code ≤ 5 → afterRecord x (passed a q) ≡ further x a q
+unfolding afterRecord replyOf reply
+further-is x a q h = rw (ne-eqb (a .code) 9 (λ e. omega arith), own-goes (a .code) h)
+
+module _ (s : List ℕ) (space : ℕ) where
+  abbrev room : Progress → ℕ
+  room x = space - x .result .written
+
+  abbrev stopped : Progress → Bool
+  stopped x = stops (x .result .ended) (x .result .code)
+
+  abbrev given : Progress → Replayed
+  given x = record1 (x .result .controller) s (x .result .place) (room x)
+
+  -- from x on, the steps of l are answered, and then the replay stops at y
+  record Outcome (l : List steps.Step) (x y : Progress) : Type 0 where
+    controller : y .result .controller ≡ after (x .result .controller) l
+    records : y .result .records ≡ x .result .records + length l
+    replies : y .replies ≡ x .replies ++ (repliesTo (x .result .controller) l ++ replyOf (lastAnswer (y .result)))
+    stops : stopped y ≡ true
+    last : lastAnswer (y .result) ≡ record1 (after (x .result .controller) l) s (placeAfter (length l) s (x .result .place)) (room x - 9 * length l)
+    fits : x .result .written ≤ space → y .result .written ≤ space
+
+  halts : (x : Progress) (r : Replayed) → given x ≡ r → stops (r .ended) (r .code) ≡ true → r .controller ≡ x .result .controller → length (replyOf r) ≤ room x → Outcome [] x (afterRecord x r)
+  unfolding afterRecord after repliesTo placeAfter
+  halts x r e h c l = record {
+    controller = c;
+    records = rw h;
+    replies = refl;
+    stops = h;
+    last = rw sub-zero (sym e);
+    fits = λ k. omega arith;
+  }
+
+  goes : (x y : Progress) (e : steps.Step) (q : ℕ) (l : List steps.Step) → reading s (x .result .place) ≡ Found e q → 9 ≤ room x
+      → Outcome l (further x (step (x .result .controller) e) q) y → Outcome (e ∷ l) x y
+  unfolding after repliesTo placeAfter placeBy
+  goes x y e q l d h o = record {
+    controller = o .controller;
+    records = omega (arith, o .records);
+    replies = o .replies ∙ simp append-assoc;
+    stops = o .stops;
+    last = rw (d, room-less (x .result .written) (length l)) (o .last);
+    fits = λ k. o .fits (omega arith);
+  }
+    where
+      room-less : (w n : ℕ) → space - w - 9 * suc n ≡ space - (w + 9) - 9 * n
+      room-less w n = omega arith
+
+  -- one round from a replay that goes on
+  round : (x : Progress) → stopped x ≡ false → advanced s space x ≡ afterRecord x (given x)
+  unfolding advanced
+  round x h = rw h
+
+  rest : (n : ℕ) (y : Progress) → stopped y ≡ true → times n (advanced s space) y ≡ y
+  unfolding advanced
+  rest n y h = times-fixed n (advanced s space) y (rw h)
+
+  -- the steps that are answered from x on
+  abbrev ahead : ℕ → Progress → List steps.Step
+  ahead n x = take (room x / 9) (stepsFrom n s (x .result .place))
+
+  abbrev Shown : ℕ → Progress → Type 0
+  Shown n x = length s - x .result .place < n → stopped x ≡ false → Outcome (ahead n x) x (times n (advanced s space) x)
+
+  -- the replay stops at a record that gives r
+  ends : (n : ℕ) (x : Progress) (r : Replayed) → given x ≡ r → stops (r .ended) (r .code) ≡ true → r .controller ≡ x .result .controller → length (replyOf r) ≤ room x
+      → ahead (suc n) x ≡ [] → Outcome (ahead (suc n) x) x (times n (advanced s space) (afterRecord x (given x)))
+  unfolding afterRecord
+  ends n x r e h c l a = rw (e, a, rest n (afterRecord x r) h) (halts x r e h c l)
+
+  none-ahead : (n : ℕ) (x : Progress) (r : Reading) → reading s (x .result .place) ≡ r → stepsBy r (stepsFrom n s) ≡ [] → ahead (suc n) x ≡ []
+  unfolding stepsFrom
+  none-ahead n x r e h = rw (e, h) (take-nil (room x / 9))
+
+  -- it stops with code 9, or with code k where the record can't be read
+  tight : (n : ℕ) (x : Progress) → given x ≡ stayed (x .result .controller) (x .result .place) 9 → ahead (suc n) x ≡ []
+      → Outcome (ahead (suc n) x) x (times n (advanced s space) (afterRecord x (given x)))
+  unfolding replyOf
+  tight n x e a = ends n x (stayed (x .result .controller) (x .result .place) 9) e refl refl (omega arith) a
+
+  unread : (n : ℕ) (x : Progress) (k : ℕ) (b : Bool) → ltb (room x) 9 ≡ b → reading s (x .result .place) ≡ Malformed k
+      → stops false k ≡ true → eqb k 9 ≡ false → Outcome (ahead (suc n) x) x (times n (advanced s space) (afterRecord x (given x)))
+  unfolding record1 replayed replyOf reply stepsBy
+  unread n x k true h e f g = tight n x (rw (e, h)) (none-ahead n x (Malformed k) e refl)
+  unread n x k false h e f g =
+      ends n x (stayed (x .result .controller) (x .result .place) k) (rw (e, h)) f refl (rw g (ltb-false (room x) 9 h)) (none-ahead n x (Malformed k) e refl)
+
+  found : (n : ℕ) (x : Progress) (d : steps.Step) (q : ℕ) (b : Bool) → ltb (room x) 9 ≡ b → reading s (x .result .place) ≡ Found d q
+      → length s - q < n → ((x′ : Progress) → Shown n x′) → Outcome (ahead (suc n) x) x (times n (advanced s space) (afterRecord x (given x)))
+  unfolding record1 replayed stepsFrom stepsBy
+  found n x d q true h e l ih = tight n x (rw (e, h)) (let m : room x / 9 ≡ 0 = omega (arith, ltb-true (room x) 9 h) in rw m)
+  found n x d q false h e l ih =
+      let a : Stepped = step (x .result .controller) d in
+      let k : a .code ≤ 5 = code-small (x .result .controller) d in
+      let m : 9 ≤ room x = ltb-false (room x) 9 h in
+      let g : afterRecord x (given x) ≡ further x a q = rw (e, h) (further-is x a q k) in
+      let u : ahead (suc n) x ≡ d ∷ ahead n (further x a q) = rw e (ap (λ (i : ℕ). take i (d ∷ stepsFrom n s q)) (share (x .result .written) m)) in
+      rw (u, g) (goes x (times n (advanced s space) (further x a q)) d q (ahead n (further x a q)) e m (ih (further x a q) l (own-goes (a .code) k)))
+    where
+      share : (w : ℕ) → 9 ≤ space - w → (space - w) / 9 ≡ suc ((space - (w + 9)) / 9)
+      share w m = omega arith
+
+  looked : (n : ℕ) (x : Progress) {r : Reading} → reading s (x .result .place) ≡ r → Look s (x .result .place) r
+      → length s - x .result .place < suc n → ((x′ : Progress) → Shown n x′) → Outcome (ahead (suc n) x) x (times n (advanced s space) (afterRecord x (given x)))
+  unfolding record1 replayed replyOf stepsBy
+  looked n x e (over h) l ih = ends n x (atEnd (x .result .controller) (length s)) (rw e) refl refl (omega arith) (none-ahead n x End e refl)
+  looked n x e (short h) l ih = unread n x 6 (ltb (room x) 9) refl e refl refl
+  looked n x e (unknown h) l ih = unread n x 7 (ltb (room x) 9) refl e refl refl
+  looked n x e (wrong h) l ih = unread n x 8 (ltb (room x) 9) refl e refl refl
+  looked n x e (whole d q i m) l ih = found n x d q (ltb (room x) 9) refl e (omega arith) ih
+
+  outcome : (n : ℕ) (x : Progress) → Shown n x
+  unfolding times
+  outcome zero x l h = absurd (omega arith)
+  outcome (suc n) x l h =
+      rw (← (times-front n (advanced s space) x), round x h)
+      (looked n x refl (look s (x .result .place)) l (outcome n))
