@@ -176,3 +176,49 @@ recordCodes z s p space = record {
   where
     t : Table (isEnd s p) (noSpace space) (headerShort s p) (tagUnknown s p) (lengthWrong s p) (bodyShort s p) z (length s) p (step z (stepAt s p)) (behind s p) (record1 z s p space)
     t = rw (record-in-order z s p space) (table (isEnd s p) (noSpace space) (headerShort s p) (tagUnknown s p) (lengthWrong s p) (bodyShort s p) z (length s) p (step z (stepAt s p)) (behind s p) (code-small z (stepAt s p)))
+
+-- ---- what a reading says of the place
+
+pub data Look (s : List ℕ) (p : ℕ) : Reading → Type 0 where
+  over : length s ≤ p → Look s p End
+  short : p < length s → Look s p (Malformed 6)
+  unknown : p < length s → Look s p (Malformed 7)
+  wrong : p < length s → Look s p (Malformed 8)
+  whole : (e : steps.Step) (q : ℕ) → p + 3 ≤ q → q ≤ length s → Look s p (Found e q)
+
+pub pick-cases : {A : Type 0} (P : A → Type 0) (b : Bool) (x y : A) → (b ≡ true → P x) → (b ≡ false → P y) → P (pick b x y)
+pick-cases P true x y f g = f refl
+pick-cases P false x y f g = g refl
+
+pub look : (s : List ℕ) (p : ℕ) → Look s p (reading s p)
+unfolding reading
+look s p =
+    pick-cases (Look s p) (isEnd s p) _ _ (λ h. over (leb-true (length s) p h))
+    (λ h. let l : p < length s = leb-false (length s) p h in
+    pick-cases (Look s p) (headerShort s p) _ _ (λ _. short l)
+    (λ _. pick-cases (Look s p) (tagUnknown s p) _ _ (λ _. unknown l)
+    (λ _. pick-cases (Look s p) (lengthWrong s p) _ _ (λ _. wrong l)
+    (λ _. pick-cases (Look s p) (bodyShort s p) _ _ (λ _. short l)
+    (λ k. whole (stepAt s p) (behind s p) (omega arith) (omega (arith, ltb-false (length s - p) (3 + bodyLength (byteAt s p)) k)))))))
+
+-- the place is at most the script's length, if it was before
+pub record-within : (z : Controller) (s : List ℕ) (p space : ℕ) → p ≤ length s → record1 z s p space .place ≤ length s
+unfolding record1 replayed
+record-within z s p space h = go (look s p)
+  where
+    go : {r : Reading} → Look s p r → replayed r z (length s) p space .place ≤ length s
+    go (over l) = omega arith
+    go (short l) = h
+    go (unknown l) = h
+    go (wrong l) = h
+    go (whole e q l m) = pick-cases (λ (r : Replayed). r .place ≤ length s) (ltb space 9) _ _ (λ _. h) (λ _. m)
+
+-- a record that is answered takes at least three bytes
+pub record-advances : (z : Controller) (s : List ℕ) (p space : ℕ) → stops (record1 z s p space .ended) (record1 z s p space .code) ≡ false → p + 3 ≤ record1 z s p space .place
+record-advances z s p space h = rw (recordCodes z s p space .answered h) (omega arith)
+
+-- one that is not answered keeps the place
+pub stop-place : (z : Controller) (s : List ℕ) (p space : ℕ) → p ≤ length s → stops (record1 z s p space .ended) (record1 z s p space .code) ≡ true → record1 z s p space .place ≡ p
+stop-place z s p space l h =
+    rw (recordCodes z s p space .unanswered h)
+    (pick-cases (λ (r : Replayed). r .place ≡ p) (isEnd s p) _ _ (λ k. omega (arith, leb-true (length s) p k)) (λ _. refl))

@@ -13,39 +13,15 @@ use Rattle.model.specs.Base.{pick, one}
 use Rattle.model.specs.Step.{step}
 use Rattle.model.specs.Requests.{after}
 use Rattle.model.specs.Script.{byteAt, bodyLength, isTag, number16, decoded, part, reading, reply, stayed, atEnd, passed, replayed, record1, replyOf, stops, Progress, begun, afterRecord, advanced, times, replay, stepsBy, stepsFrom, stepsOf, repliesTo}
-use Rattle.model.specs.Scripts.{isEnd, headerShort, tagUnknown, lengthWrong, bodyShort, behind, stepAt, answeredSteps, lastAnswer, placeBy, placeAfter, FoldsSteps, StopsBehind, RecordCodes}
-use Rattle.model.specs.Scripts as statements
+use Rattle.model.specs.Scripts.{isEnd, headerShort, tagUnknown, lengthWrong, bodyShort, behind, stepAt, answeredSteps, lastAnswer, placeBy, placeAfter, RecordCodes, Replays}
 use Rattle.model.specs.declared.Controller.{Controller}
 use Rattle.model.specs.declared.Reading.{Reading}
 use Rattle.model.specs.declared.Reading.the-variants.{End, Malformed, Found}
 use Rattle.model.specs.declared.Replayed.{Replayed}
 use Rattle.model.specs.declared.Stepped.{Stepped}
+use Rattle.model.specs.declared.Replay as declared
 use Rattle.model.specs.declared.Step as steps
-use Rattle.model.proofs.Readings.{code-small, recordCodes}
-
--- ---- what a reading says of the place
-
-data Look (s : List ℕ) (p : ℕ) : Reading → Type 0 where
-  over : length s ≤ p → Look s p End
-  short : p < length s → Look s p (Malformed 6)
-  unknown : p < length s → Look s p (Malformed 7)
-  wrong : p < length s → Look s p (Malformed 8)
-  whole : (e : steps.Step) (q : ℕ) → p + 3 ≤ q → q ≤ length s → Look s p (Found e q)
-
-pick-cases : {A : Type 0} (P : A → Type 0) (b : Bool) (x y : A) → (b ≡ true → P x) → (b ≡ false → P y) → P (pick b x y)
-pick-cases P true x y f g = f refl
-pick-cases P false x y f g = g refl
-
-look : (s : List ℕ) (p : ℕ) → Look s p (reading s p)
-unfolding reading
-look s p =
-    pick-cases (Look s p) (isEnd s p) _ _ (λ h. over (leb-true (length s) p h))
-    (λ h. let l : p < length s = leb-false (length s) p h in
-    pick-cases (Look s p) (headerShort s p) _ _ (λ _. short l)
-    (λ _. pick-cases (Look s p) (tagUnknown s p) _ _ (λ _. unknown l)
-    (λ _. pick-cases (Look s p) (lengthWrong s p) _ _ (λ _. wrong l)
-    (λ _. pick-cases (Look s p) (bodyShort s p) _ _ (λ _. short l)
-    (λ k. whole (stepAt s p) (behind s p) (omega arith) (omega (arith, ltb-false (length s - p) (3 + bodyLength (byteAt s p)) k)))))))
+use Rattle.model.proofs.Readings.{pick-cases, code-small, recordCodes, stop-place, Look, over, short, unknown, wrong, whole, look}
 
 -- ---- rounds
 
@@ -245,3 +221,94 @@ module _ (s : List ℕ) (space : ℕ) where
   outcome (suc n) x l h =
       rw (← (times-front n (advanced s space) x), round x h)
       (looked n x refl (look s (x .result .place)) l (outcome n))
+
+  -- ---- the bytes written are the replies
+
+  counted : (n : ℕ) (x : Progress) → x .result .written ≡ length (x .replies) → times n (advanced s space) x .result .written ≡ length (times n (advanced s space) x .replies)
+  unfolding times advanced afterRecord
+  counted zero x h = h
+  counted (suc n) x h =
+      let y : Progress = times n (advanced s space) x in
+      let k : y .result .written ≡ length (y .replies) = counted n x h in
+      pick-cases (λ (w : Progress). w .result .written ≡ length (w .replies)) (stopped y) _ _ (λ _. k) (λ _. rw (length-append, k))
+
+-- ---- a whole replay
+
+leb-eqb : (m n : ℕ) → m ≤ n → leb n m ≡ eqb m n
+leb-eqb m n h = go (leb n m) refl
+  where
+    go : (b : Bool) → leb n m ≡ b → b ≡ eqb m n
+    go true e = sym (eq-eqb m n (omega (arith, leb-true n m e)))
+    go false e = sym (ne-eqb m n (λ q. omega (arith, leb-false n m e)))
+
+stop-codes : (e : Bool) (k : ℕ) → stops e k ≡ true → e ≡ false → (6 ≤ k) × (k ≤ 9)
+stop-codes true k h f = absurd (true≢false f)
+stop-codes false k h f = (leb-true 6 k (and-left (leb 6 k) (leb k 9) h), leb-true k 9 (and-right (leb 6 k) (leb k 9) h))
+  where
+    and-left : (a b : Bool) → (a && b) ≡ true → a ≡ true
+    and-left true b g = refl
+    and-left false b g = g
+
+    and-right : (a b : Bool) → (a && b) ≡ true → b ≡ true
+    and-right true b g = g
+    and-right false b g = absurd (false≢true g)
+
+-- where a replay stops, from its last answer
+module _ (x : declared.Replay) (z : Controller) (s : List ℕ) (p space : ℕ) (last : lastAnswer x ≡ record1 z s p space) (h : p ≤ length s) where
+  stopped-place : stops (x .ended) (x .code) ≡ true → x .place ≡ p
+  stopped-place k = ap (λ (r : Replayed). r .place) last ∙ stop-place z s p space h (subst (λ (r : Replayed). stops (r .ended) (r .code) ≡ true) last k)
+
+  stopped-ends : stops (x .ended) (x .code) ≡ true → x .ended ≡ eqb (x .place) (length s)
+  stopped-ends k = rw (stopped-place k) (ap (λ (r : Replayed). r .ended) last ∙ (recordCodes z s p space .ends ∙ leb-eqb p (length s) h))
+
+module _ (z : Controller) (s : List ℕ) (space : ℕ) where
+  whole-outcome : Outcome s space (answeredSteps s space) (begun z) (replay z s space)
+  unfolding replay stepsOf
+  whole-outcome =
+      let o : Outcome s space (take ((space - 0) / 9) (stepsFrom (suc (length s)) s 0)) (begun z) (replay z s space) = outcome s space (suc (length s)) (begun z) (omega arith) refl in
+      rw (sub-zero, steps-more (length s) s 0 (omega arith)) at o
+
+  pub replays : Replays z s space
+  unfolding replay advanced
+  replays = record {
+    folds = record {
+      controller = o .controller;
+      records = records;
+      replies = o .replies;
+      written = counted s space (suc (length s)) (begun z) refl;
+      fits = o .fits (omega arith);
+    };
+    stop = record {
+      stopped = o .stops;
+      rounds = λ k. times-more (suc (length s)) k (advanced s space) (begun z) (rw (o .stops));
+      place = rw records (stopped-place x (after z l) s p room last h (o .stops));
+      within = rw (stopped-place x (after z l) s p room last h (o .stops)) h;
+      ends = stopped-ends x (after z l) s p room last h (o .stops);
+      codes = stop-codes (x .ended) (x .code) (o .stops);
+      last = last;
+    };
+  }
+    where
+      l : List steps.Step
+      l = answeredSteps s space
+
+      x : declared.Replay
+      x = replay z s space .result
+
+      p : ℕ
+      p = placeAfter (length l) s 0
+
+      room : ℕ
+      room = space - 9 * length l
+
+      h : p ≤ length s
+      h = place-within (length l) s 0 (omega arith)
+
+      o : Outcome s space l (begun z) (replay z s space)
+      o = whole-outcome
+
+      records : x .records ≡ length l
+      records = o .records ∙ simp zero-add
+
+      last : lastAnswer x ≡ record1 (after z l) s p room
+      last = rw sub-zero at (o .last)

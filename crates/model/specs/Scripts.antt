@@ -105,7 +105,7 @@ pub record StopsBehind (z : Controller) (s : List ℕ) (space : ℕ) (x : Progre
 
 pub record Replays (z : Controller) (s : List ℕ) (space : ℕ) : Type 0 where
   pub folds : FoldsSteps z s space (replay z s space)
-  pub stops : StopsBehind z s space (replay z s space)
+  pub stop : StopsBehind z s space (replay z s space)
 
 -- ---- the whole script of document 01: reset, and reads of MCR, MSR and an offset that is not in the map
 
