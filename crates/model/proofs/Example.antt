@@ -4,6 +4,7 @@ use Rattle.model.specs.Scripts.{WholeScript}
 use Rattle.model.specs.declared.Controller.{Controller}
 use Rattle.model.proofs.Computed.{scripts}
 
-pub wholeScript : (z : Controller) → WholeScript z
+-- by computation
+pub whole-script : (z : Controller) → WholeScript z
 unfolding scripts
-wholeScript z = record { replies = refl; records = refl; ended = refl; place = refl }
+whole-script z = record { replies = refl; records = refl; ended = refl; place = refl }

@@ -1,12 +1,12 @@
 -- One record of a script: the codes of a step are at most 5, and the codes 6 to 9 are given exactly when document 01 says.
 use mathlib.Core.Bool.{Bool, true, false, not, _&&_, _||_, true≢false, false≢true}
-use mathlib.Core.Path.{_≡_, refl, sym, ap, _∙_, subst}
+use mathlib.Core.Path.{_≡_, refl, sym, _∙_}
 use mathlib.Core.List.{List}
 use Prim.Native.Nat.{ℕ, _+_, _-_, _≤_, _<_}
 use native.Mathlib.Omega.{arith}
 use lib.Dec.{eqb, ltb, leb}
 use lib.ListN.{length}
-use borrow.Author.Tests.{ltb-true, ltb-false, leb-true, leb-false, lt-leb, ne-eqb}
+use borrow.Author.Tests.{ltb-false, leb-true, leb-false, lt-leb, ne-eqb}
 use Rattle.model.specs.Base.{pick, bit}
 use Rattle.model.specs.Registers.{registerAt, isAbsent, isFree, hasRequest, writeRefusal}
 use Rattle.model.specs.Reception.{malformed}
@@ -77,6 +77,7 @@ step-small c (ReceiveError k n) = both-small (faultInRange k n) (pick (mayReceiv
 pub refusal-small : (c : Core) (e : steps.Step) → refusal c e ≤ 5
 refusal-small c e = leb-true (refusal c e) 5 (step-small c e)
 
+-- nor does its answer
 pub code-small : (z : Controller) (e : steps.Step) → step z e .code ≤ 5
 unfolding step answered
 code-small z e = refusal-small (z .core) e
@@ -161,9 +162,9 @@ table false false false false false false z n p x q l = record {
   ownCode = λ k. l;
 }
 
-
-pub recordCodes : (z : Controller) (s : List ℕ) (p space : ℕ) → RecordCodes z s p space
-recordCodes z s p space = record {
+-- the table of one record
+pub record-codes : (z : Controller) (s : List ℕ) (p space : ℕ) → RecordCodes z s p space (record1 z s p space)
+record-codes z s p space = record {
   ends = t .ends;
   code9 = t .code9;
   code6 = t .code6;
@@ -179,6 +180,7 @@ recordCodes z s p space = record {
 
 -- ---- what a reading says of the place
 
+-- the reading at a place, with what each case says of the lengths
 pub data Look (s : List ℕ) (p : ℕ) : Reading → Type 0 where
   over : length s ≤ p → Look s p End
   short : p < length s → Look s p (Malformed 6)
@@ -186,6 +188,7 @@ pub data Look (s : List ℕ) (p : ℕ) : Reading → Type 0 where
   wrong : p < length s → Look s p (Malformed 8)
   whole : (e : steps.Step) (q : ℕ) → p + 3 ≤ q → q ≤ length s → Look s p (Found e q)
 
+-- cases of a choice
 pub pick-cases : {A : Type 0} (P : A → Type 0) (b : Bool) (x y : A) → (b ≡ true → P x) → (b ≡ false → P y) → P (pick b x y)
 pick-cases P true x y f g = f refl
 pick-cases P false x y f g = g refl
@@ -215,10 +218,10 @@ record-within z s p space h = go (look s p)
 
 -- a record that is answered takes at least three bytes
 pub record-advances : (z : Controller) (s : List ℕ) (p space : ℕ) → stops (record1 z s p space .ended) (record1 z s p space .code) ≡ false → p + 3 ≤ record1 z s p space .place
-record-advances z s p space h = rw (recordCodes z s p space .answered h) (omega arith)
+record-advances z s p space h = rw (record-codes z s p space .answered h) (omega arith)
 
 -- one that is not answered keeps the place
 pub stop-place : (z : Controller) (s : List ℕ) (p space : ℕ) → p ≤ length s → stops (record1 z s p space .ended) (record1 z s p space .code) ≡ true → record1 z s p space .place ≡ p
 stop-place z s p space l h =
-    rw (recordCodes z s p space .unanswered h)
+    rw (record-codes z s p space .unanswered h)
     (pick-cases (λ (r : Replayed). r .place ≡ p) (isEnd s p) _ _ (λ k. omega (arith, leb-true (length s) p k)) (λ _. refl))

@@ -1,5 +1,5 @@
 -- A replay is the fold of the step: one round after another, up to the record at which it stops.
-use mathlib.Core.Bool.{Bool, true, false, not, _&&_, _||_, true≢false, false≢true}
+use mathlib.Core.Bool.{Bool, true, false, _&&_, true≢false, false≢true}
 use mathlib.Core.Path.{_≡_, refl, sym, ap, _∙_, subst}
 use mathlib.Core.List.{List, [], _∷_, _++_, append-assoc}
 use Prim.Native.Nat.{ℕ, zero, suc, _+_, _-_, _*_, _/_, _≤_, _<_}
@@ -7,13 +7,12 @@ use native.Mathlib.Nat.{add-zero, add-suc, zero-add, sub-zero}
 use native.Mathlib.Omega.{arith}
 use lib.Dec.{eqb, ltb, leb}
 use lib.ListN.{length, take, length-append}
-use lib.Seq.{take-nil}
-use borrow.Author.Tests.{ltb-true, ltb-false, leb-true, leb-false, lt-leb, le-leb, lt-ltb, le-ltb, eq-eqb, ne-eqb}
-use Rattle.model.specs.Base.{pick, one}
+use lib.Seq.{take-nil, take-all}
+use borrow.Author.Tests.{ltb-true, ltb-false, leb-true, leb-false, lt-leb, eq-eqb, ne-eqb}
 use Rattle.model.specs.Step.{step}
 use Rattle.model.specs.Requests.{after}
-use Rattle.model.specs.Script.{byteAt, bodyLength, isTag, number16, decoded, part, reading, reply, stayed, atEnd, passed, replayed, record1, replyOf, stops, Progress, begun, afterRecord, advanced, times, replay, stepsBy, stepsFrom, stepsOf, repliesTo}
-use Rattle.model.specs.Scripts.{isEnd, headerShort, tagUnknown, lengthWrong, bodyShort, behind, stepAt, answeredSteps, lastAnswer, placeBy, placeAfter, RecordCodes, Replays}
+use Rattle.model.specs.Script.{reading, reply, stayed, atEnd, passed, replayed, record1, replyOf, stops, Progress, begun, afterRecord, advanced, times, replay, stepsBy, stepsFrom, stepsOf, repliesTo}
+use Rattle.model.specs.Scripts.{answeredSteps, lastAnswer, placeBy, placeAfter, Replays}
 use Rattle.model.specs.declared.Controller.{Controller}
 use Rattle.model.specs.declared.Reading.{Reading}
 use Rattle.model.specs.declared.Reading.the-variants.{End, Malformed, Found}
@@ -21,7 +20,7 @@ use Rattle.model.specs.declared.Replayed.{Replayed}
 use Rattle.model.specs.declared.Stepped.{Stepped}
 use Rattle.model.specs.declared.Replay as declared
 use Rattle.model.specs.declared.Step as steps
-use Rattle.model.proofs.Readings.{pick-cases, code-small, recordCodes, stop-place, Look, over, short, unknown, wrong, whole, look}
+use Rattle.model.proofs.Readings.{pick-cases, code-small, record-codes, stop-place, Look, over, short, unknown, wrong, whole, look}
 
 -- ---- rounds
 
@@ -58,10 +57,20 @@ steps-same n f g h k (unknown l) = refl
 steps-same n f g h k (wrong l) = refl
 steps-same n f g h k (whole e q l m) = ap (λ (x : List steps.Step). e ∷ x) (k q (omega arith))
 
+-- each record takes at least three bytes, so that as many rounds as bytes are more than enough
 pub steps-more : (n : ℕ) (s : List ℕ) (p : ℕ) → length s - p ≤ n → stepsFrom (suc n) s p ≡ stepsFrom n s p
 unfolding stepsFrom
 steps-more zero s p h = steps-none (stepsFrom 0 s) h (look s p)
 steps-more (suc n) s p h = steps-same n (stepsFrom (suc n) s) (stepsFrom n s) h (λ q l. steps-more n s q l) (look s p)
+
+-- the steps from a place on: none at the end and where a record can't be read, else the record's step and those from behind it on
+pub steps-on : (s : List ℕ) (p : ℕ) → stepsFrom (length s) s p ≡ stepsBy (reading s p) (stepsFrom (length s) s)
+unfolding stepsFrom
+steps-on s p = sym (steps-more (length s) s p (omega arith))
+
+-- with nine bytes of reply space for each, all steps are answered
+pub all-answered : (s : List ℕ) (space : ℕ) → 9 * length (stepsOf s) ≤ space → answeredSteps s space ≡ stepsOf s
+all-answered s space h = take-all (space / 9) (stepsOf s) (omega arith)
 
 -- ---- places
 
@@ -73,16 +82,13 @@ place-within-by f h k (unknown l) = h
 place-within-by f h k (wrong l) = h
 place-within-by f h k (whole e q l m) = k q m
 
+-- records lie within the script
 pub place-within : (n : ℕ) (s : List ℕ) (p : ℕ) → p ≤ length s → placeAfter n s p ≤ length s
 unfolding placeAfter
 place-within zero s p h = h
 place-within (suc n) s p h = place-within-by (placeAfter n s) h (λ q l. place-within n s q l) (look s p)
 
 -- ---- one round
-
-reply-length : (k l w : ℕ) → length (reply k l w) ≡ 9
-unfolding reply
-reply-length k l w = refl
 
 -- a record that is answered: one more, and nine bytes more
 abbrev further : Progress → Stepped → ℕ → Progress
@@ -100,6 +106,7 @@ further x a q = record {
   replies = x .replies ++ reply (a .code) (a .lines) (a .word);
 }
 
+-- a step's own code does not stop the replay
 own-goes : (k : ℕ) → k ≤ 5 → stops false k ≡ false
 own-goes k h = rw (lt-leb 6 k (omega arith))
 
@@ -178,12 +185,13 @@ module _ (s : List ℕ) (space : ℕ) where
   unfolding stepsFrom
   none-ahead n x r e h = rw (e, h) (take-nil (room x / 9))
 
-  -- it stops with code 9, or with code k where the record can't be read
+  -- code 9: nothing is written
   tight : (n : ℕ) (x : Progress) → given x ≡ stayed (x .result .controller) (x .result .place) 9 → ahead (suc n) x ≡ []
       → Outcome (ahead (suc n) x) x (times n (advanced s space) (afterRecord x (given x)))
   unfolding replyOf
   tight n x e a = ends n x (stayed (x .result .controller) (x .result .place) 9) e refl refl (omega arith) a
 
+  -- a record that can't be read: its code, or 9
   unread : (n : ℕ) (x : Progress) (k : ℕ) (b : Bool) → ltb (room x) 9 ≡ b → reading s (x .result .place) ≡ Malformed k
       → stops false k ≡ true → eqb k 9 ≡ false → Outcome (ahead (suc n) x) x (times n (advanced s space) (afterRecord x (given x)))
   unfolding record1 replayed replyOf reply stepsBy
@@ -191,20 +199,28 @@ module _ (s : List ℕ) (space : ℕ) where
   unread n x k false h e f g =
       ends n x (stayed (x .result .controller) (x .result .place) k) (rw (e, h)) f refl (rw g (ltb-false (room x) 9 h)) (none-ahead n x (Malformed k) e refl)
 
+  share : (w : ℕ) → 9 ≤ space - w → (space - w) / 9 ≡ suc ((space - (w + 9)) / 9)
+  share w m = omega arith
+
+  ahead-found : (n : ℕ) (x : Progress) (d : steps.Step) (q : ℕ) (a : Stepped) → reading s (x .result .place) ≡ Found d q → 9 ≤ room x → ahead (suc n) x ≡ d ∷ ahead n (further x a q)
+  unfolding stepsFrom stepsBy
+  ahead-found n x d q a e m = rw (e, share (x .result .written) m)
+
+  given-found : (x : Progress) (d : steps.Step) (q : ℕ) → reading s (x .result .place) ≡ Found d q → ltb (room x) 9 ≡ false
+      → afterRecord x (given x) ≡ further x (step (x .result .controller) d) q
+  unfolding record1 replayed
+  given-found x d q e h = rw (e, h) (further-is x (step (x .result .controller) d) q (code-small (x .result .controller) d))
+
+  -- a record is read: code 9, or its step is answered
   found : (n : ℕ) (x : Progress) (d : steps.Step) (q : ℕ) (b : Bool) → ltb (room x) 9 ≡ b → reading s (x .result .place) ≡ Found d q
       → length s - q < n → ((x′ : Progress) → Shown n x′) → Outcome (ahead (suc n) x) x (times n (advanced s space) (afterRecord x (given x)))
-  unfolding record1 replayed stepsFrom stepsBy
+  unfolding record1 replayed
   found n x d q true h e l ih = tight n x (rw (e, h)) (let m : room x / 9 ≡ 0 = omega (arith, ltb-true (room x) 9 h) in rw m)
   found n x d q false h e l ih =
       let a : Stepped = step (x .result .controller) d in
-      let k : a .code ≤ 5 = code-small (x .result .controller) d in
       let m : 9 ≤ room x = ltb-false (room x) 9 h in
-      let g : afterRecord x (given x) ≡ further x a q = rw (e, h) (further-is x a q k) in
-      let u : ahead (suc n) x ≡ d ∷ ahead n (further x a q) = rw e (ap (λ (i : ℕ). take i (d ∷ stepsFrom n s q)) (share (x .result .written) m)) in
-      rw (u, g) (goes x (times n (advanced s space) (further x a q)) d q (ahead n (further x a q)) e m (ih (further x a q) l (own-goes (a .code) k)))
-    where
-      share : (w : ℕ) → 9 ≤ space - w → (space - w) / 9 ≡ suc ((space - (w + 9)) / 9)
-      share w m = omega arith
+      rw (ahead-found n x d q a e m, given-found x d q e h)
+      (goes x (times n (advanced s space) (further x a q)) d q (ahead n (further x a q)) e m (ih (further x a q) l (own-goes (a .code) (code-small (x .result .controller) d))))
 
   looked : (n : ℕ) (x : Progress) {r : Reading} → reading s (x .result .place) ≡ r → Look s (x .result .place) r
       → length s - x .result .place < suc n → ((x′ : Progress) → Shown n x′) → Outcome (ahead (suc n) x) x (times n (advanced s space) (afterRecord x (given x)))
@@ -215,6 +231,7 @@ module _ (s : List ℕ) (space : ℕ) where
   looked n x e (wrong h) l ih = unread n x 8 (ltb (room x) 9) refl e refl refl
   looked n x e (whole d q i m) l ih = found n x d q (ltb (room x) 9) refl e (omega arith) ih
 
+  -- with more rounds than bytes are left, the replay stops behind the steps that are answered
   outcome : (n : ℕ) (x : Progress) → Shown n x
   unfolding times
   outcome zero x l h = absurd (omega arith)
@@ -259,7 +276,7 @@ module _ (x : declared.Replay) (z : Controller) (s : List ℕ) (p space : ℕ) (
   stopped-place k = ap (λ (r : Replayed). r .place) last ∙ stop-place z s p space h (subst (λ (r : Replayed). stops (r .ended) (r .code) ≡ true) last k)
 
   stopped-ends : stops (x .ended) (x .code) ≡ true → x .ended ≡ eqb (x .place) (length s)
-  stopped-ends k = rw (stopped-place k) (ap (λ (r : Replayed). r .ended) last ∙ (recordCodes z s p space .ends ∙ leb-eqb p (length s) h))
+  stopped-ends k = rw (stopped-place k) (ap (λ (r : Replayed). r .ended) last ∙ (record-codes z s p space .ends ∙ leb-eqb p (length s) h))
 
 module _ (z : Controller) (s : List ℕ) (space : ℕ) where
   whole-outcome : Outcome s space (answeredSteps s space) (begun z) (replay z s space)
@@ -268,6 +285,7 @@ module _ (z : Controller) (s : List ℕ) (space : ℕ) where
       let o : Outcome s space (take ((space - 0) / 9) (stepsFrom (suc (length s)) s 0)) (begun z) (replay z s space) = outcome s space (suc (length s)) (begun z) (omega arith) refl in
       rw (sub-zero, steps-more (length s) s 0 (omega arith)) at o
 
+  -- a replay is the fold of the step over the steps that are answered, and stops behind them
   pub replays : Replays z s space
   unfolding replay advanced
   replays = record {

@@ -52,17 +52,15 @@ stepAt s p = decoded (byteAt s p) (part s (p + 3) (behind s p))
 
 -- the end mark and the codes 6 to 9, each exactly when; there nothing changes and the place stays, at the end it is the
 -- script's length; else the answer is that of the record's step, the code at most 5
-pub record RecordCodes (z : Controller) (s : List ℕ) (p space : ℕ) : Type 0 where
-  pub ends : record1 z s p space .ended ≡ isEnd s p
-  pub code9 : eqb (record1 z s p space .code) 9 ≡ (not (isEnd s p) && noSpace space)
-  pub code6 : eqb (record1 z s p space .code) 6 ≡ (answerable s p space && (headerShort s p || (not (tagUnknown s p) && not (lengthWrong s p) && bodyShort s p)))
-  pub code7 : eqb (record1 z s p space .code) 7 ≡ (answerable s p space && not (headerShort s p) && tagUnknown s p)
-  pub code8 : eqb (record1 z s p space .code) 8 ≡ (answerable s p space && not (headerShort s p) && not (tagUnknown s p) && lengthWrong s p)
-  pub unanswered :
-    stops (record1 z s p space .ended) (record1 z s p space .code) ≡ true
-    → record1 z s p space ≡ pick (isEnd s p) (atEnd z (length s)) (stayed z p (record1 z s p space .code))
-  pub answered : stops (record1 z s p space .ended) (record1 z s p space .code) ≡ false → record1 z s p space ≡ passed (step z (stepAt s p)) (behind s p)
-  pub ownCode : stops (record1 z s p space .ended) (record1 z s p space .code) ≡ false → record1 z s p space .code ≤ 5
+pub record RecordCodes (z : Controller) (s : List ℕ) (p space : ℕ) (r : Replayed) : Type 0 where
+  pub ends : r .ended ≡ isEnd s p
+  pub code9 : eqb (r .code) 9 ≡ (not (isEnd s p) && noSpace space)
+  pub code6 : eqb (r .code) 6 ≡ (answerable s p space && (headerShort s p || (not (tagUnknown s p) && not (lengthWrong s p) && bodyShort s p)))
+  pub code7 : eqb (r .code) 7 ≡ (answerable s p space && not (headerShort s p) && tagUnknown s p)
+  pub code8 : eqb (r .code) 8 ≡ (answerable s p space && not (headerShort s p) && not (tagUnknown s p) && lengthWrong s p)
+  pub unanswered : stops (r .ended) (r .code) ≡ true → r ≡ pick (isEnd s p) (atEnd z (length s)) (stayed z p (r .code))
+  pub answered : stops (r .ended) (r .code) ≡ false → r ≡ passed (step z (stepAt s p)) (behind s p)
+  pub ownCode : stops (r .ended) (r .code) ≡ false → r .code ≤ 5
 
 -- ---- a whole script
 
