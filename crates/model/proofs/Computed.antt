@@ -10,6 +10,7 @@ use Rattle.model.specs.Registers as registers
 use Rattle.model.specs.Step as stepping
 use Rattle.model.specs.Requests as requests
 use Rattle.model.specs.Fairness as fairness
+use Rattle.model.specs.Script as script
 
 unfoldable pub transmission : Unit {0}
 unfolding aborted abortedAll offWire mailboxes.tiWritten mailboxes.tdtWritten mailboxes.tdlWritten mailboxes.tdhWritten mailboxes.requestedBy mailboxes.cleared mailboxes.completed mailboxes.tsrWritten mailboxes.sentIdentifier mailboxes.wireKey mailboxes.key mailboxes.before mailboxes.sooner mailboxes.later mailboxes.lowest mailboxes.highest mailboxes.first mailboxes.last mailboxes.low mailboxes.code mailboxes.tsrByte mailboxes.tsr mailboxes.tiWord mailboxes.started mailboxes.over mailboxes.outcomeFlags mailboxes.ended
@@ -35,3 +36,8 @@ everything = tt
 unfoldable pub observed : Unit {0}
 unfolding requests.next requests.after requests.entries requests.requestsAfter fairness.meanwhile fairness.hasEnded fairness.every fairness.count
 observed = tt
+
+-- what a replay computes with
+unfoldable pub replaying : Unit {0}
+unfolding everything script.bodyLength script.decoded script.reading script.reply script.replayed script.recordAt script.replyOf script.afterRecord script.advanced script.times script.replay script.stepsBy script.stepsFrom script.stepsOf script.repliesTo
+replaying = tt

@@ -18,3 +18,5 @@ pub mod Acceptances
 pub mod FilterNumbers
 pub mod ErrorCounting
 pub mod Exampled
+pub mod Readings
+pub mod Replays

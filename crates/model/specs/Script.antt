@@ -95,8 +95,8 @@ replayed End z n p space = atEnd z n
 replayed (Malformed k) z n p space = stayed z p (pick (ltb space 9) 9 k)
 replayed (Found e q) z n p space = pick (ltb space 9) (stayed z p 9) (passed (step z e) q)
 
-unfoldable pub record1 : Controller → List ℕ → ℕ → ℕ → Replayed
-record1 z s p space = replayed (reading s p) z (length s) p space
+unfoldable pub recordAt : Controller → List ℕ → ℕ → ℕ → Replayed
+recordAt z s p space = replayed (reading s p) z (length s) p space
 
 -- what is written: nothing at the end and for code 9, else the reply
 unfoldable pub replyOf : Replayed → List ℕ
@@ -142,7 +142,7 @@ afterRecord x r = record {
 unfoldable pub advanced : List ℕ → ℕ → Progress → Progress
 advanced s space x =
     pick (stops (x .result .ended) (x .result .code)) x
-    (afterRecord x (record1 (x .result .controller) s (x .result .place) (space - x .result .written)))
+    (afterRecord x (recordAt (x .result .controller) s (x .result .place) (space - x .result .written)))
 
 unfoldable pub times : {A : Type 0} → ℕ → (A → A) → A → A
 times zero f x = x

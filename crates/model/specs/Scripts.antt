@@ -1,0 +1,126 @@
+-- What is promised of scripts: the codes 6 to 9 of a record as a table, a replay as the fold of the step, where it stops,
+-- and the whole script of the example. Document 01: "Refusal numbers", "Bench script", "Numbers on the wall".
+use mathlib.Core.Bool.{Bool, true, false, not, _&&_, _||_}
+use mathlib.Core.Path.{_≡_}
+use mathlib.Core.List.{List, [], _∷_, _++_}
+use Prim.Native.Nat.{ℕ, zero, suc, _+_, _-_, _*_, _/_, _≤_}
+use lib.Dec.{eqb, ltb, leb}
+use lib.ListN.{length, take}
+use Rattle.model.specs.Base.{pick}
+use Rattle.model.specs.Step.{step}
+use Rattle.model.specs.Requests.{after}
+use Rattle.model.specs.Script.{byteAt, number16, isTag, bodyLength, decoded, part, reading, stayed, atEnd, passed, recordAt, replyOf, stops, Progress, begun, advanced, times, replay, stepsOf, repliesTo}
+use Rattle.model.specs.declared.Controller.{Controller}
+use Rattle.model.specs.declared.Reading.{Reading}
+use Rattle.model.specs.declared.Reading.the-variants.{End, Malformed, Found}
+use Rattle.model.specs.declared.Replayed.{Replayed}
+use Rattle.model.specs.declared.Replay as replays
+use Rattle.model.specs.declared.Step as steps
+
+-- ---- one record: what can be wrong with it
+
+-- an empty rest is the end, and so is a place past the script
+abbrev pub isEnd : List ℕ → ℕ → Bool
+isEnd s p = leb (length s) p
+
+abbrev pub noSpace : ℕ → Bool
+noSpace space = ltb space 9
+
+abbrev pub headerShort : List ℕ → ℕ → Bool
+headerShort s p = ltb (length s - p) 3
+
+abbrev pub tagUnknown : List ℕ → ℕ → Bool
+tagUnknown s p = not (isTag (byteAt s p))
+
+abbrev pub lengthWrong : List ℕ → ℕ → Bool
+lengthWrong s p = not (eqb (number16 s (p + 1)) (bodyLength (byteAt s p)))
+
+abbrev pub bodyShort : List ℕ → ℕ → Bool
+bodyShort s p = ltb (length s - p) (3 + bodyLength (byteAt s p))
+
+-- there is a record, and space for its reply
+abbrev pub answerable : List ℕ → ℕ → ℕ → Bool
+answerable s p space = not (isEnd s p) && not (noSpace space)
+
+-- the place behind a record
+abbrev pub behind : List ℕ → ℕ → ℕ
+behind s p = p + 3 + bodyLength (byteAt s p)
+
+-- the step of a record that is whole
+abbrev pub stepAt : List ℕ → ℕ → steps.Step
+stepAt s p = decoded (byteAt s p) (part s (p + 3) (behind s p))
+
+-- the end mark and the codes 6 to 9, each exactly when; there nothing changes and the place stays, at the end it is the
+-- script's length; else the answer is that of the record's step, the code at most 5
+pub record RecordCodes (z : Controller) (s : List ℕ) (p space : ℕ) (r : Replayed) : Type 0 where
+  pub ends : r .ended ≡ isEnd s p
+  pub code9 : eqb (r .code) 9 ≡ (not (isEnd s p) && noSpace space)
+  pub code6 : eqb (r .code) 6 ≡ (answerable s p space && (headerShort s p || (not (tagUnknown s p) && not (lengthWrong s p) && bodyShort s p)))
+  pub code7 : eqb (r .code) 7 ≡ (answerable s p space && not (headerShort s p) && tagUnknown s p)
+  pub code8 : eqb (r .code) 8 ≡ (answerable s p space && not (headerShort s p) && not (tagUnknown s p) && lengthWrong s p)
+  pub unanswered : stops (r .ended) (r .code) ≡ true → r ≡ pick (isEnd s p) (atEnd z (length s)) (stayed z p (r .code))
+  pub answered : stops (r .ended) (r .code) ≡ false → r ≡ passed (step z (stepAt s p)) (behind s p)
+  pub ownCode : stops (r .ended) (r .code) ≡ false → r .code ≤ 5
+
+-- ---- a whole script
+
+-- the steps that are answered with this much reply space, nine bytes for each
+abbrev pub answeredSteps : List ℕ → ℕ → List steps.Step
+answeredSteps s space = take (space / 9) (stepsOf s)
+
+abbrev pub lastAnswer : replays.Replay → Replayed
+lastAnswer x = record { controller = x .controller; place = x .place; ended = x .ended; code = x .code; lines = x .lines; word = x .word }
+
+-- the place behind the first n records from place p on, or of the first that can't be read
+unfoldable pub placeBy : Reading → ℕ → (ℕ → ℕ) → ℕ
+placeBy End p f = p
+placeBy (Malformed k) p f = p
+placeBy (Found e q) p f = f q
+
+unfoldable pub placeAfter : ℕ → List ℕ → ℕ → ℕ
+placeAfter zero s p = p
+placeAfter (suc n) s p = placeBy (reading s p) p (placeAfter n s)
+
+-- a replay is the fold of the step over the steps that are answered; the replies are theirs, and then what is written
+-- for the record at which it stops: its reply for the codes 6 to 8, nothing at the end and for code 9
+pub record FoldsSteps (z : Controller) (s : List ℕ) (space : ℕ) (x : Progress) : Type 0 where
+  pub controller : x .result .controller ≡ after z (answeredSteps s space)
+  pub records : x .result .records ≡ length (answeredSteps s space)
+  pub replies : x .replies ≡ repliesTo z (answeredSteps s space) ++ replyOf (lastAnswer (x .result))
+  pub written : x .result .written ≡ length (x .replies)
+  pub fits : x .result .written ≤ space
+
+-- a replay stops, and more rounds change nothing; it stops at the record behind those that were answered, with what that
+-- record gives in the space that they left; the end mark is set exactly when the whole script was read
+pub record StopsBehind (z : Controller) (s : List ℕ) (space : ℕ) (x : Progress) : Type 0 where
+  pub stopped : stops (x .result .ended) (x .result .code) ≡ true
+  pub rounds : (k : ℕ) → times (suc (length s) + k) (advanced s space) (begun z) ≡ x
+  pub place : x .result .place ≡ placeAfter (x .result .records) s 0
+  pub within : x .result .place ≤ length s
+  pub ends : x .result .ended ≡ eqb (x .result .place) (length s)
+  pub codes : x .result .ended ≡ false → (6 ≤ x .result .code) × (x .result .code ≤ 9)
+  pub last : lastAnswer (x .result) ≡ recordAt (after z (answeredSteps s space)) s (placeAfter (length (answeredSteps s space)) s 0) (space - 9 * length (answeredSteps s space))
+
+pub record Replays (z : Controller) (s : List ℕ) (space : ℕ) : Type 0 where
+  pub folds : FoldsSteps z s space (replay z s space)
+  pub stop : StopsBehind z s space (replay z s space)
+
+-- ---- the whole script of document 01: reset, and reads of MCR, MSR and an offset that is not in the map
+
+abbrev pub wholeScript : List ℕ
+wholeScript = 0x01 ∷ 0x00 ∷ 0x00 ∷ 0x02 ∷ 0x02 ∷ 0x00 ∷ 0x00 ∷ 0x00 ∷ 0x02 ∷ 0x02 ∷ 0x00 ∷ 0x04 ∷ 0x00 ∷ 0x02 ∷ 0x02 ∷ 0x00 ∷ 0xB0 ∷ 0x02 ∷ []
+
+abbrev pub wholeReplies : List ℕ
+wholeReplies =
+    0x81 ∷ 0x06 ∷ 0x00 ∷ 0x00 ∷ 0x00 ∷ 0x00 ∷ 0x00 ∷ 0x00 ∷ 0x00
+    ∷ 0x81 ∷ 0x06 ∷ 0x00 ∷ 0x00 ∷ 0x00 ∷ 0x02 ∷ 0x00 ∷ 0x01 ∷ 0x00
+    ∷ 0x81 ∷ 0x06 ∷ 0x00 ∷ 0x00 ∷ 0x00 ∷ 0x02 ∷ 0x0C ∷ 0x00 ∷ 0x00
+    ∷ 0x81 ∷ 0x06 ∷ 0x00 ∷ 0x01 ∷ 0x00 ∷ 0x00 ∷ 0x00 ∷ 0x00 ∷ 0x00
+    ∷ []
+
+-- from any controller, since it begins with a reset; 36 bytes are just enough
+pub record WholeScript (z : Controller) : Type 0 where
+  pub replies : replay z wholeScript 36 .replies ≡ wholeReplies
+  pub records : replay z wholeScript 36 .result .records ≡ 4
+  pub ended : replay z wholeScript 36 .result .ended ≡ true
+  pub place : replay z wholeScript 36 .result .place ≡ 18
