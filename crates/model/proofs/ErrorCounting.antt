@@ -352,10 +352,10 @@ abbrev Counted : Controller → steps.Step → Type 0
 Counted z s =
     settled (applied (z .core) (z .banks) s) .control .recovery
     ≡ pick
-        (Zeroes (isReset s) (isInitialization (z .core .control .mode)) (isInitialization (modeAfter (applied (z .core) (z .banks) s)))
-        (not (ltb 255 (z .core .errors .tec)) && ltb 255 (pick (recovered (stored z) z s) 0 (countedTec s (z .core .errors .tec)))))
-        0
-        (pick (countsIdle (stored z) z s) ((z .core .control .recovery + 1) % 128) (z .core .control .recovery))
+    (Zeroes (isReset s) (isInitialization (z .core .control .mode)) (isInitialization (modeAfter (applied (z .core) (z .banks) s)))
+    (not (ltb 255 (z .core .errors .tec)) && ltb 255 (pick (recovered (stored z) z s) 0 (countedTec s (z .core .errors .tec)))))
+    0
+    (pick (countsIdle (stored z) z s) ((z .core .control .recovery + 1) % 128) (z .core .control .recovery))
 
 write-counted : (z : Controller) (o w : ℕ) (b : Bool) → isResetWrite (registerAt o) w ≡ b → isDone z (Write o w) ≡ true → Counted z (Write o w)
 unfolding applied

@@ -162,7 +162,7 @@ waits (s ∷ l) z m g w h =
     let e : Entry = entry s (step z s) in
     let es : List Entry = entries (step z s .controller) l in
     let h′ : every underRequestOrder (record { requests = requestsOf d; event = event e } ∷ meanwhile m (next (requestsOf d) (event e)) es) ≡ true =
-        rw (meanwhile-cons m (requestsOf d) e es (outstanding-held d m true (w .held))) at h in
+    rw (meanwhile-cons m (requestsOf d) e es (outstanding-held d m true (w .held))) at h in
     advance m d e es (ordered-keeps (event e) (txfp (z .core .control)) (every-head underRequestOrder _ _ h′)) (requests-follow d (event e) g (follows z s .granted)) w
     (turn d (event e) m g (follows z s .granted) w (every-head underRequestOrder _ _ h′))
     (subst (λ (d′ : View). Waits (d′ .queue) m → Promise m es d′) (follows z s .view) (waits l (step z s .controller) m (step-sound z s g)))

@@ -29,13 +29,30 @@ below-banks = refl
 from-banks : (o : ℕ) → 0x240 ≤ o → registerAt o ≡ pick (ltb o (0x240 + 8 * bankCount)) (bankRegister (bank ((o - 0x240) / 8)) (o % 8)) Absent
 unfolding registerAt filterRegister
 from-banks o h =
-    simp (le-ltb o 0x20 (omega arith), le-ltb o 0x200 (omega arith), ne-eqb o 0x200 (λ e. omega arith), ne-eqb o 0x204 (λ e. omega arith),
-    ne-eqb o 0x20C (λ e. omega arith), ne-eqb o 0x214 (λ e. omega arith), ne-eqb o 0x21C (λ e. omega arith), le-leb 0x240 o h)
+    simp (
+      le-ltb o 0x20 (omega arith),
+      le-ltb o 0x200 (omega arith),
+      ne-eqb o 0x200 (λ e. omega arith),
+      ne-eqb o 0x204 (λ e. omega arith),
+      ne-eqb o 0x20C (λ e. omega arith),
+      ne-eqb o 0x214 (λ e. omega arith),
+      ne-eqb o 0x21C (λ e. omega arith),
+      le-leb 0x240 o h,
+    )
 
 in-banks : (o : ℕ) → 0x240 ≤ o → inMap bankCount o ≡ eqb (o % 4) 0 && ltb o (0x240 + 8 * bankCount)
 in-banks o h =
-    simp (lt-leb o 0x01C (omega arith), lt-leb o 0x1CC (omega arith), le-leb 0x180 o (omega arith), ne-eqb o 0x200 (λ e. omega arith), ne-eqb o 0x204 (λ e. omega arith),
-    ne-eqb o 0x20C (λ e. omega arith), ne-eqb o 0x214 (λ e. omega arith), ne-eqb o 0x21C (λ e. omega arith), le-leb 0x240 o h)
+    simp (
+      lt-leb o 0x01C (omega arith),
+      lt-leb o 0x1CC (omega arith),
+      le-leb 0x180 o (omega arith),
+      ne-eqb o 0x200 (λ e. omega arith),
+      ne-eqb o 0x204 (λ e. omega arith),
+      ne-eqb o 0x20C (λ e. omega arith),
+      ne-eqb o 0x214 (λ e. omega arith),
+      ne-eqb o 0x21C (λ e. omega arith),
+      le-leb 0x240 o h,
+    )
 
 -- a bank's two words are at bytes 0 and 4 of its block of 8
 module _ (o : ℕ) (from : 0x240 ≤ o) where
