@@ -8,7 +8,7 @@ use lib.Dec.{eqb, ltb, leb}
 use lib.ListN.{length}
 use Rattle.model.specs.Base.{pick, bit, bits}
 use Rattle.model.specs.Queue.{same, flag, holds, isFrom, isNobody}
-use Rattle.model.specs.Mailboxes.{tdtMasked}
+use Rattle.model.specs.Mailboxes.{at, tdtMasked}
 use Rattle.model.specs.Reception.{noFrame}
 use Rattle.model.specs.Control.{ttcm, isSleep, isNormal, boff, mcrMasked, ierMasked, btrMasked}
 use Rattle.model.specs.Registers.{bankCount, filterMasked, isFree}
@@ -19,6 +19,7 @@ use Rattle.model.specs.declared.RequestOrder.{RequestOrder}
 use Rattle.model.specs.declared.RequestOrder.the-variants.{Empty, One, Two, Three}
 use Rattle.model.specs.declared.Queue.{Queue}
 use Rattle.model.specs.declared.MailboxState.{MailboxState}
+use Rattle.model.specs.declared.Transmit.{Transmit}
 use Rattle.model.specs.declared.StoredFrame.{StoredFrame}
 use Rattle.model.specs.declared.FifoState.{FifoState}
 use Rattle.model.specs.declared.Frame.{Frame}
@@ -57,6 +58,10 @@ pub record MailboxRange (x : MailboxState) : Type 0 where
   pub tdt : tdtMasked (x .tdt) ≡ x .tdt
   pub tdl : x .tdl < 2 ^ 32
   pub tdh : x .tdh < 2 ^ 32
+
+pub record TransmitRange (t : Transmit) : Type 0 where
+  pub queue : QueueRange (t .queue)
+  pub mailboxes : (m : Mailbox) → MailboxRange (at (t .mailboxes) m)
 
 -- ---- frames
 
@@ -125,18 +130,18 @@ pub record WireRange (c : Core) : Type 0 where
 
 -- ---- the controller
 
+pub record CoreRange (c : Core) : Type 0 where
+  pub control : ControlRange (c .control)
+  pub errors : ErrorRange (c .errors)
+  pub recovery : RecoveryRange (c .control) (c .errors)
+  pub wire : WireRange c
+  pub transmit : TransmitRange (c .transmit)
+  pub fifo0 : FifoRange (c .fifo0)
+  pub fifo1 : FifoRange (c .fifo1)
+  pub filters : FilterRange (c .filters)
+
 pub record InRange (z : Controller) : Type 0 where
-  pub control : ControlRange (z .core .control)
-  pub errors : ErrorRange (z .core .errors)
-  pub recovery : RecoveryRange (z .core .control) (z .core .errors)
-  pub wire : WireRange (z .core)
-  pub queue : QueueRange (z .core .transmit .queue)
-  pub m0 : MailboxRange (z .core .transmit .mailboxes .m0)
-  pub m1 : MailboxRange (z .core .transmit .mailboxes .m1)
-  pub m2 : MailboxRange (z .core .transmit .mailboxes .m2)
-  pub fifo0 : FifoRange (z .core .fifo0)
-  pub fifo1 : FifoRange (z .core .fifo1)
-  pub filters : FilterRange (z .core .filters)
+  pub core : CoreRange (z .core)
   pub bankWords : length (z .banks) ≡ 2 * bankCount
   pub banks : Words (z .banks)
 

@@ -1,0 +1,20 @@
+-- Choices and tests taken apart.
+use mathlib.Core.Bool.{Bool, true, false, not, _&&_, _||_, false≢true}
+use mathlib.Core.Path.{_≡_, refl, sym, _∙_}
+use Rattle.model.specs.Base.{pick}
+
+-- what both values satisfy, each knowing the test, the choice satisfies
+pub pick-cases : {A : Type 0} (P : A → Type 0) (b : Bool) (x y : A) → (b ≡ true → P x) → (b ≡ false → P y) → P (pick b x y)
+pick-cases P true x y f g = f refl
+pick-cases P false x y f g = g refl
+
+pub and-l : (a b : Bool) → (a && b) ≡ true → a ≡ true
+and-l true b h = refl
+and-l false b h = h
+
+pub and-r : (a b : Bool) → (a && b) ≡ true → b ≡ true
+and-r true b h = h
+and-r false b h = absurd (false≢true h)
+
+pub opposed : {A : Type 0} {b : Bool} → b ≡ true → b ≡ false → A
+opposed t f = absurd (false≢true (sym f ∙ t))

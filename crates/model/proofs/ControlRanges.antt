@@ -1,0 +1,148 @@
+-- Control words, modes and error counters stay in their ranges.
+use mathlib.Core.Bool.{Bool, true, false, not, _&&_, _||_, and-false}
+use mathlib.Core.Path.{_≡_, refl, sym, ap, _∙_}
+use Prim.Native.Nat.{ℕ, _+_, _*_, _-_, _/_, _%_, _^_, _<_, _≤_}
+use native.Mathlib.Omega.{arith}
+use lib.Dec.{eqb, ltb, leb}
+use borrow.Author.Tests.{eqb-true, ltb-true, ltb-false, leb-true, leb-false, not-true}
+use Rattle.model.specs.Base.{pick, bit, bits}
+use Rattle.model.specs.Control.{inrq, sleep, ttcm, awum, abom, isSleep, isInitialization, isNormal, boff, modeNext, entered, settled, controlReset, masterReset, mcrMasked, ierMasked, btrMasked, mcrWritten, msrWritten, ierWritten, btrWritten, esrWritten, lessOne, counts, recovers, counted, idleMode, idled, idleErrors, ticked, sleepCleared, woken, outcomeErrors, receivedErrors, recPlus, faultErrors, noticed}
+use Rattle.model.specs.Reachable.{ControlRange, ErrorRange, RecoveryRange}
+use Rattle.model.specs.declared.Mode.{Mode}
+use Rattle.model.specs.declared.Mode.the-variants.{Sleep, Initialization, Normal}
+use Rattle.model.specs.declared.Control.{Control}
+use Rattle.model.specs.declared.Errors.{Errors}
+use Rattle.model.proofs.Choices.{pick-cases, and-l, and-r, opposed}
+use Rattle.model.proofs.Masks.{mcr-masked, ier-masked, btr-masked, ttcm-masked, sleep-cleared, ttcm-kept}
+
+-- ---- register writes
+
+module _ (k : Control) (r : ControlRange k) where
+  pub mcr-written-range : (w : ℕ) → ControlRange (mcrWritten k w)
+  unfolding mcrWritten
+  mcr-written-range w = record {
+    mcr = mcr-masked w;
+    ier = r .ier;
+    btr = r .btr;
+    timer = pick-cases (λ (t : ℕ). t < 65536) (bit 7 w) (k .timer) 0 (λ _. r .timer) (λ _. omega arith);
+    stopped = λ off. let e : bit 7 w ≡ false = sym (ttcm-masked w) ∙ off in rw e;
+    recovery = r .recovery;
+    slaki = r .slaki;
+  }
+
+  pub msr-written-range : (w : ℕ) → ControlRange (msrWritten k w)
+  unfolding msrWritten
+  msr-written-range w = record {
+    mcr = r .mcr;
+    ier = r .ier;
+    btr = r .btr;
+    timer = r .timer;
+    stopped = r .stopped;
+    recovery = r .recovery;
+    slaki = λ on. r .slaki (and-l (k .slaki) (not (bit 4 w)) on);
+  }
+
+  pub ier-written-range : (w : ℕ) → ControlRange (ierWritten k w)
+  unfolding ierWritten
+  ier-written-range w = record { mcr = r .mcr; ier = ier-masked w; btr = r .btr; timer = r .timer; stopped = r .stopped; recovery = r .recovery; slaki = r .slaki }
+
+  pub btr-written-range : (w : ℕ) → ControlRange (btrWritten k w)
+  unfolding btrWritten
+  btr-written-range w = record { mcr = r .mcr; ier = r .ier; btr = btr-masked w; timer = r .timer; stopped = r .stopped; recovery = r .recovery; slaki = r .slaki }
+
+  pub master-reset-range : ControlRange (masterReset k)
+  unfolding masterReset
+  master-reset-range = record { mcr = refl; ier = r .ier; btr = r .btr; timer = omega arith; stopped = λ _. refl; recovery = omega arith; slaki = λ _. refl }
+
+-- ---- modes
+
+  slaki-entered : (m : Mode) (off : Bool) → entered k m off .slaki ≡ true → isSleep m ≡ true
+  unfolding entered
+  slaki-entered Sleep off on = refl
+  slaki-entered Initialization off on = opposed (r .slaki (and-l (k .slaki) (not (isSleep (k .mode))) on)) (not-true (isSleep (k .mode)) (and-r (k .slaki) (not (isSleep (k .mode))) on))
+  slaki-entered Normal off on = opposed (r .slaki (and-l (k .slaki) (not (isSleep (k .mode))) on)) (not-true (isSleep (k .mode)) (and-r (k .slaki) (not (isSleep (k .mode))) on))
+
+  entered-recovery : (m : Mode) (off : Bool) → entered k m off .recovery < 128
+  unfolding entered
+  entered-recovery m off = pick-cases (λ (n : ℕ). n < 128) (isInitialization m && not (isInitialization (k .mode))) 0 (k .recovery) (λ _. omega arith) (λ _. r .recovery)
+
+  pub entered-range : (m : Mode) (off : Bool) → ControlRange (entered k m off)
+  unfolding entered
+  entered-range m off = record {
+    mcr = r .mcr;
+    ier = r .ier;
+    btr = r .btr;
+    timer = r .timer;
+    stopped = r .stopped;
+    recovery = entered-recovery m off;
+    slaki = slaki-entered m off;
+  }
+
+  pub settled-range : (free off : Bool) → ControlRange (settled k free off)
+  unfolding settled
+  settled-range true off = entered-range (modeNext (k .mode) (inrq k) (sleep k)) off
+  settled-range false off = r
+
+-- ---- events
+
+  counted-recovery : (e : Errors) → counted k e .recovery < 128
+  unfolding counted recovers
+  counted-recovery e =
+      pick-cases (λ (n : ℕ). n < 128) (recovers k e) 0 _ (λ _. omega arith)
+      (λ no. pick-cases (λ (n : ℕ). n < 128) (counts k e) _ _
+      (λ yes. let few : leb 127 (k .recovery) ≡ false = rw yes at no in
+      let f : k .recovery < 127 = leb-false _ _ few in
+      omega arith)
+      (λ _. r .recovery))
+
+  counted-range : (e : Errors) → ControlRange (counted k e)
+  unfolding counted
+  counted-range e = record {
+    mcr = r .mcr;
+    ier = r .ier;
+    btr = r .btr;
+    timer = r .timer;
+    stopped = r .stopped;
+    recovery = counted-recovery e;
+    slaki = r .slaki;
+  }
+
+  pub ticked-range : (n : ℕ) → ControlRange (ticked k n)
+  unfolding ticked
+  ticked-range n = record {
+    mcr = r .mcr;
+    ier = r .ier;
+    btr = r .btr;
+    timer = pick-cases (λ (t : ℕ). t < 65536) (isNormal (k .mode) && ttcm k) _ _ (λ _. omega arith) (λ _. r .timer);
+    stopped = λ off. simp (off, and-false) (r .stopped off);
+    recovery = r .recovery;
+    slaki = r .slaki;
+  }
+
+  pub woken-range : ControlRange (woken k)
+  unfolding woken
+  woken-range = record {
+    mcr = pick-cases (λ (w : ℕ). mcrMasked w ≡ w) (awum k) _ _ (λ _. sleep-cleared (k .mcr) (r .mcr)) (λ _. r .mcr);
+    ier = r .ier;
+    btr = r .btr;
+    timer = r .timer;
+    stopped = pick-cases (λ (w : ℕ). bit 7 w ≡ false → k .timer ≡ 0) (awum k) _ _ (λ _ off. r .stopped (sym (ttcm-kept (k .mcr)) ∙ off)) (λ _. r .stopped);
+    recovery = r .recovery;
+    slaki = r .slaki;
+  }
+
+  pub noticed-range : (e d : Errors) (coded : Bool) → ControlRange (noticed k e d coded)
+  unfolding noticed
+  noticed-range e d coded = record {
+    mcr = r .mcr;
+    ier = r .ier;
+    btr = r .btr;
+    timer = r .timer;
+    stopped = r .stopped;
+    recovery = pick-cases (λ (n : ℕ). n < 128) (boff d) _ _ (λ _. omega arith) (λ _. r .recovery);
+    slaki = r .slaki;
+  }
+
+pub idled-range : (k : Control) → ControlRange k → (e : Errors) → ControlRange (idled k e)
+unfolding idled
+idled-range k r e = entered-range (counted k e) (counted-range k r e) (idleMode (k .mode) (k .mcr)) (boff e)
