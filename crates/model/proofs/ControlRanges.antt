@@ -146,3 +146,90 @@ module _ (k : Control) (r : ControlRange k) where
 pub idled-range : (k : Control) → ControlRange k → (e : Errors) → ControlRange (idled k e)
 unfolding idled
 idled-range k r e = entered-range (counted k e) (counted-range k r e) (idleMode (k .mode) (k .mcr)) (boff e)
+
+-- ---- error counters
+
+module _ (e : Errors) (r : ErrorRange e) where
+  pub esr-written-range : (w : ℕ) → ErrorRange (esrWritten e w)
+  unfolding esrWritten
+  esr-written-range w = record {
+    tec = r .tec;
+    rec = r .rec;
+    lec = pick-cases (λ (n : ℕ). n ≤ 7) (eqb (bits 4 3 w) 7) _ _ (λ _. omega arith) (λ _. r .lec);
+  }
+
+  pub idle-errors-range : (k : Control) → ErrorRange (idleErrors k e)
+  unfolding idleErrors
+  idle-errors-range k = record {
+    tec = pick-cases (λ (n : ℕ). n ≤ 263) (recovers k e) _ _ (λ _. omega arith) (λ _. r .tec);
+    rec = pick-cases (λ (n : ℕ). n ≤ 255) (recovers k e) _ _ (λ _. omega arith) (λ _. r .rec);
+    lec = r .lec;
+  }
+
+  -- a frame that was on the wire: not in bus-off
+  pub outcome-errors-range : (n : ℕ) → n ≤ 7 → boff e ≡ false → ErrorRange (outcomeErrors e n)
+  unfolding outcomeErrors
+  outcome-errors-range n l on =
+      let t : e .tec ≤ 255 = ltb-false _ _ on in
+      pick-cases ErrorRange (eqb n 0) _ _ (λ _. record { tec = omega arith; rec = r .rec; lec = omega arith })
+      (λ _. pick-cases ErrorRange (eqb n 7) _ _ (λ _. r)
+      (λ _. record { tec = omega arith; rec = r .rec; lec = l }))
+
+  pub received-errors-range : ErrorRange (receivedErrors e)
+  unfolding receivedErrors
+  received-errors-range = record {
+    tec = r .tec;
+    rec = pick-cases (λ (n : ℕ). n ≤ 255) (ltb 128 (e .rec)) _ _ (λ _. omega arith) (λ _. let l : e .rec ≤ 255 = r .rec in omega arith);
+    lec = omega arith;
+  }
+
+  pub fault-errors-range : (c n : ℕ) → c ≤ 7 → n ≤ 8 → ErrorRange (faultErrors e c n)
+  unfolding faultErrors recPlus
+  fault-errors-range c n l j = record {
+    tec = r .tec;
+    rec = pick-cases (λ (x : ℕ). x ≤ 255) (ltb (255 - n) (e .rec)) _ _ (λ _. omega arith) (λ low. let h : e .rec ≤ 255 - n = ltb-false _ _ low in omega arith);
+    lec = l;
+  }
+
+-- ---- recovery from bus-off
+
+-- an idle event never enters Initialization
+idle-not-init : (b : Bool) (m : Mode) → (isInitialization (pick b Normal m) && not (isInitialization m)) ≡ false
+idle-not-init true m = refl
+idle-not-init false Sleep = refl
+idle-not-init false Initialization = refl
+idle-not-init false Normal = refl
+
+module _ (k : Control) (e : Errors) (r : RecoveryRange k e) where
+  entered-recovery-range : (m : Mode) → RecoveryRange (entered k m (boff e)) e
+  unfolding entered
+  entered-recovery-range m = record {
+    count = λ on. pick-cases (λ (n : ℕ). n ≡ 0) (isInitialization m && not (isInitialization (k .mode))) _ _ (λ _. refl) (λ _. r .count on);
+    initialized = λ on. simp (r .initialized on, on, and-false);
+  }
+
+  pub settled-recovery-range : (free : Bool) → RecoveryRange (settled k free (boff e)) e
+  unfolding settled
+  settled-recovery-range true = entered-recovery-range (modeNext (k .mode) (inrq k) (sleep k))
+  settled-recovery-range false = r
+
+  pub noticed-recovery-range : (d : Errors) (coded : Bool) → boff e ≡ false → RecoveryRange (noticed k e d coded) d
+  unfolding noticed
+  noticed-recovery-range d coded on = record { count = λ off. rw off (r .count on); initialized = λ off. rw (r .initialized on) }
+
+  -- the count and `initialized`, with the test whether this idle ends bus-off
+  idled-count : (b : Bool) → recovers k e ≡ b → ltb 255 (pick b 0 (e .tec)) ≡ false → pick b 0 (pick (counts k e) ((k .recovery + 1) % 2 ^ 8) (k .recovery)) ≡ 0
+  unfolding counts
+  idled-count true h on = refl
+  idled-count false h on = rw on (r .count on)
+
+  idled-initialized : (b : Bool) → ltb 255 (pick b 0 (e .tec)) ≡ false → (k .initialized && not b) ≡ false
+  idled-initialized true on = and-false (k .initialized)
+  idled-initialized false on = rw (r .initialized on)
+
+  pub idled-recovery-range : RecoveryRange (idled k e) (idleErrors k e)
+  unfolding idled entered counted idleErrors idleMode
+  idled-recovery-range = record {
+    count = λ on. rw (idle-not-init (eqb (k .mcr % 4) 0) (k .mode)) (idled-count (recovers k e) refl on);
+    initialized = λ on. rw (idle-not-init (eqb (k .mcr % 4) 0) (k .mode), idled-initialized (recovers k e) on);
+  }

@@ -1,3 +1,5 @@
 pub mod Choices
 pub mod Masks
+pub mod OrderFacts
 pub mod ControlRanges
+pub mod QueueRanges
