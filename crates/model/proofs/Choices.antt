@@ -18,3 +18,11 @@ and-r false b h = absurd (false≢true h)
 
 pub opposed : {A : Type 0} {b : Bool} → b ≡ true → b ≡ false → A
 opposed t f = absurd (false≢true (sym f ∙ t))
+
+pub or-l : (a b : Bool) → (a || b) ≡ false → a ≡ false
+or-l true b h = h
+or-l false b h = refl
+
+pub or-r : (a b : Bool) → (a || b) ≡ false → b ≡ false
+or-r true b h = absurd (false≢true (sym h))
+or-r false b h = h

@@ -3,3 +3,5 @@ pub mod Masks
 pub mod OrderFacts
 pub mod ControlRanges
 pub mod QueueRanges
+pub mod MailboxRanges
+pub mod FifoRanges
