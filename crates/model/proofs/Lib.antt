@@ -5,3 +5,5 @@ pub mod ControlRanges
 pub mod QueueRanges
 pub mod MailboxRanges
 pub mod FifoRanges
+pub mod CoreRanges
+pub mod WriteRanges

@@ -1,0 +1,166 @@
+-- Every register write that is not refused keeps the core and the banks' words in range.
+use mathlib.Core.Bool.{Bool, true, false, not, _&&_, _||_, false≢true, true≢false}
+use mathlib.Core.List.{List, [], _∷_}
+use mathlib.Core.Path.{_≡_, refl, sym, ap, _∙_}
+use Prim.Native.Nat.{ℕ, zero, suc, _+_, _*_, _^_, _<_}
+use native.Mathlib.Omega.{arith}
+use lib.Dec.{eqb}
+use lib.ListN.{length, set, length-set}
+use Rattle.model.specs.Base.{pick, bit}
+use Rattle.model.specs.Queue.{holds, isFrom, aborted, abortedAll}
+use Rattle.model.specs.Mailboxes.{at, requestedBy, tdtWritten, tdlWritten, tdhWritten, tsrWritten, abrq, dropped}
+use Rattle.model.specs.Control.{masterReset, mcrWritten, msrWritten, ierWritten, btrWritten, esrWritten}
+use Rattle.model.specs.Reception.{emptyFifo, rfrWritten}
+use Rattle.model.specs.Registers.{bankCount, withFilterWords, filterMasked, fifoOf, hasRequest, coreReset, written, banksWritten, writeRefusal}
+use Rattle.model.specs.Reachable.{RecoveryRange, FilterRange, Words, CoreRange}
+use Rattle.model.specs.declared.Mailbox.{Mailbox}
+use Rattle.model.specs.declared.Mailbox.the-variants.{M0, M1, M2}
+use Rattle.model.specs.declared.Sender.{Sender}
+use Rattle.model.specs.declared.MailboxBits.{MailboxBits}
+use Rattle.model.specs.declared.Queue.{Queue}
+use Rattle.model.specs.declared.Filters.{Filters}
+use Rattle.model.specs.declared.Core.{Core}
+use Rattle.model.specs.declared.Register.{Register}
+use Rattle.model.specs.declared.Register.the-variants.{Mcr, Msr, Tsr, Rfr, Ier, Esr, Btr, Ti, Tdt, Tdl, Tdh, Ri, Rdt, Rdl, Rdh, Fmr, Fm1r, Fs1r, Ffa1r, Fa1r, R1, R2, Absent}
+use Rattle.model.proofs.Choices.{pick-cases}
+use Rattle.model.proofs.Masks.{filter-masked}
+use Rattle.model.proofs.ControlRanges.{mcr-written-range, msr-written-range, ier-written-range, btr-written-range, master-reset-range, esr-written-range}
+use Rattle.model.proofs.MailboxRanges.{tdt-written-range, tdl-written-range, tdh-written-range, dropped-range, tsr-written-range, with-mailbox-range, requested-by-range}
+use Rattle.model.proofs.FifoRanges.{empty-fifo-range, rfr-written-range}
+use Rattle.model.proofs.CoreRanges.{free-wire-range, with-errors-range, with-filters-range, fifo-of-range, with-fifo-range, with-words-range, same-wire-range}
+
+-- ---- the banks' words
+
+set-words : (v : List ℕ) (i w : ℕ) → Words v → w < 2 ^ 32 → Words (set v i w)
+set-words [] i w r l = r
+set-words (x ∷ v) zero w r l = (l, r .1)
+set-words (x ∷ v) (suc i) w r l = (r .0, set-words v i w (r .1) l)
+
+-- what holds of the words, and with one of them set, holds of them written
+banks-cases : (P : List ℕ → Type 0) (g : Register) (v : List ℕ) (w : ℕ) → P v → ((i : ℕ) → P (set v i w)) → P (banksWritten g v w)
+unfolding banksWritten
+banks-cases P Mcr v w p s = p
+banks-cases P Msr v w p s = p
+banks-cases P Tsr v w p s = p
+banks-cases P (Rfr f) v w p s = p
+banks-cases P Ier v w p s = p
+banks-cases P Esr v w p s = p
+banks-cases P Btr v w p s = p
+banks-cases P (Ti m) v w p s = p
+banks-cases P (Tdt m) v w p s = p
+banks-cases P (Tdl m) v w p s = p
+banks-cases P (Tdh m) v w p s = p
+banks-cases P (Ri f) v w p s = p
+banks-cases P (Rdt f) v w p s = p
+banks-cases P (Rdl f) v w p s = p
+banks-cases P (Rdh f) v w p s = p
+banks-cases P Fmr v w p s = p
+banks-cases P Fm1r v w p s = p
+banks-cases P Fs1r v w p s = p
+banks-cases P Ffa1r v w p s = p
+banks-cases P Fa1r v w p s = p
+banks-cases P (R1 b) v w p s = s (2 * (b .0))
+banks-cases P (R2 b) v w p s = s (2 * (b .0) + 1)
+banks-cases P Absent v w p s = p
+
+pub banks-written-length : (g : Register) (v : List ℕ) (w : ℕ) → length (banksWritten g v w) ≡ length v
+banks-written-length g v w = banks-cases (λ (u : List ℕ). length u ≡ length v) g v w refl (λ i. length-set v i w)
+
+pub banks-written-words : (g : Register) (v : List ℕ) (w : ℕ) → Words v → w < 2 ^ 32 → Words (banksWritten g v w)
+banks-written-words g v w r l = banks-cases Words g v w r (λ i. set-words v i w r l)
+
+-- ---- the core
+
+aborted-wire : (b : Bool) (q : Queue) (m : Mailbox) → aborted b q m .transmitting ≡ q .transmitting
+unfolding aborted
+aborted-wire b q m =
+    pick-cases (λ (p : Queue). p .transmitting ≡ q .transmitting) (b && holds (q .order) m) _ _
+    (λ _. pick-cases (λ (p : Queue). p .transmitting ≡ q .transmitting) (isFrom (q .transmitting) m) _ _ (λ _. refl) (λ _. refl))
+    (λ _. refl)
+
+aborted-all-wire : (q : Queue) (f : MailboxBits) → abortedAll q f .transmitting ≡ q .transmitting
+unfolding abortedAll
+aborted-all-wire q f = aborted-wire (f .m2) _ M2 ∙ (aborted-wire (f .m1) _ M1 ∙ aborted-wire (f .m0) q M0)
+
+-- a refusal that is 2 where a test says so
+granted : (b : Bool) → eqb (pick b 2 0) 0 ≡ true → b ≡ false
+granted true h = absurd (false≢true h)
+granted false h = refl
+
+module _ (c : Core) (r : CoreRange c) where
+  core-reset-range : CoreRange (coreReset c)
+  unfolding coreReset masterReset
+  core-reset-range = record {
+    control = master-reset-range (c .control) (r .control);
+    errors = r .errors;
+    recovery = record { count = λ _. refl; initialized = r .recovery .initialized };
+    wire = free-wire-range (coreReset c) refl;
+    transmit = dropped-range (c .transmit) (r .transmit);
+    fifo0 = empty-fifo-range;
+    fifo1 = empty-fifo-range;
+    filters = r .filters;
+  }
+
+  mcr-core-range : (w : ℕ) → CoreRange (written Mcr c w)
+  unfolding written mcrWritten
+  mcr-core-range w =
+      pick-cases CoreRange (bit 15 w) (coreReset c) _ (λ _. core-reset-range)
+      (λ _. with-words-range c r (mcrWritten (c .control) w) (mcr-written-range (c .control) (r .control) w) refl refl refl)
+
+  msr-core-range : (w : ℕ) → CoreRange (written Msr c w)
+  unfolding written msrWritten
+  msr-core-range w = with-words-range c r (msrWritten (c .control) w) (msr-written-range (c .control) (r .control) w) refl refl refl
+
+  ier-core-range : (w : ℕ) → CoreRange (written Ier c w)
+  unfolding written ierWritten
+  ier-core-range w = with-words-range c r (ierWritten (c .control) w) (ier-written-range (c .control) (r .control) w) refl refl refl
+
+  btr-core-range : (w : ℕ) → CoreRange (written Btr c w)
+  unfolding written btrWritten
+  btr-core-range w = with-words-range c r (btrWritten (c .control) w) (btr-written-range (c .control) (r .control) w) refl refl refl
+
+  esr-core-range : (w : ℕ) → CoreRange (written Esr c w)
+  unfolding written esrWritten
+  esr-core-range w =
+      with-errors-range c r (c .control) (esrWritten (c .errors) w) (r .control) (esr-written-range (c .errors) (r .errors) w)
+      (record { count = r .recovery .count; initialized = r .recovery .initialized })
+      (record { normal = r .wire .normal; on = r .wire .on })
+
+  tsr-core-range : (w : ℕ) → CoreRange (written Tsr c w)
+  unfolding written tsrWritten
+  tsr-core-range w = same-wire-range c r (tsrWritten (c .transmit) w) (tsr-written-range (c .transmit) (r .transmit) w) (aborted-all-wire (c .transmit .queue) (abrq w))
+
+  ti-core-range : (m : Mailbox) (w : ℕ) → w < 2 ^ 32 → hasRequest c m ≡ false → CoreRange (written (Ti m) c w)
+  unfolding written requestedBy
+  ti-core-range m w l n =
+      same-wire-range c r (requestedBy (c .transmit) m w) (requested-by-range (c .transmit) (r .transmit) m w l n)
+      (pick-cases (λ (q : Queue). q .transmitting ≡ c .transmit .queue .transmitting) (bit 0 w) _ _ (λ _. refl) (λ _. refl))
+
+pub written-range : (g : Register) (c : Core) (w : ℕ) → CoreRange c → w < 2 ^ 32 → eqb (writeRefusal g c) 0 ≡ true → CoreRange (written g c w)
+unfolding written writeRefusal
+written-range Mcr c w r l h = mcr-core-range c r w
+written-range Msr c w r l h = msr-core-range c r w
+written-range Tsr c w r l h = tsr-core-range c r w
+written-range (Rfr f) c w r l h = with-fifo-range c r f (rfrWritten (fifoOf f c) w) (rfr-written-range (fifoOf f c) w (fifo-of-range c r f))
+written-range Ier c w r l h = ier-core-range c r w
+written-range Esr c w r l h = esr-core-range c r w
+written-range Btr c w r l h = btr-core-range c r w
+written-range (Ti m) c w r l h = ti-core-range c r m w l (granted (hasRequest c m) h)
+written-range (Tdt m) c w r l h =
+    same-wire-range c r _ (with-mailbox-range (c .transmit) (r .transmit) m _ (tdt-written-range (at (c .transmit .mailboxes) m) (r .transmit .mailboxes m) w)) refl
+written-range (Tdl m) c w r l h =
+    same-wire-range c r _ (with-mailbox-range (c .transmit) (r .transmit) m _ (tdl-written-range (at (c .transmit .mailboxes) m) (r .transmit .mailboxes m) w l)) refl
+written-range (Tdh m) c w r l h =
+    same-wire-range c r _ (with-mailbox-range (c .transmit) (r .transmit) m _ (tdh-written-range (at (c .transmit .mailboxes) m) (r .transmit .mailboxes m) w l)) refl
+written-range (Ri f) c w r l h = r
+written-range (Rdt f) c w r l h = r
+written-range (Rdl f) c w r l h = r
+written-range (Rdh f) c w r l h = r
+written-range Fmr c w r l h = with-filters-range c r _ (record { mode = r .filters .mode; scale = r .filters .scale; assignment = r .filters .assignment; activation = r .filters .activation })
+written-range Fm1r c w r l h = with-filters-range c r _ (record { mode = filter-masked w; scale = r .filters .scale; assignment = r .filters .assignment; activation = r .filters .activation })
+written-range Fs1r c w r l h = with-filters-range c r _ (record { mode = r .filters .mode; scale = filter-masked w; assignment = r .filters .assignment; activation = r .filters .activation })
+written-range Ffa1r c w r l h = with-filters-range c r _ (record { mode = r .filters .mode; scale = r .filters .scale; assignment = filter-masked w; activation = r .filters .activation })
+written-range Fa1r c w r l h = with-filters-range c r _ (record { mode = r .filters .mode; scale = r .filters .scale; assignment = r .filters .assignment; activation = filter-masked w })
+written-range (R1 b) c w r l h = r
+written-range (R2 b) c w r l h = r
+written-range Absent c w r l h = r
