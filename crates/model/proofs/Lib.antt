@@ -7,3 +7,4 @@ pub mod MailboxRanges
 pub mod FifoRanges
 pub mod CoreRanges
 pub mod WriteRanges
+pub mod EventRanges
