@@ -1,6 +1,8 @@
 -- Choices and tests taken apart.
 use mathlib.Core.Bool.{Bool, true, false, not, _&&_, _||_, false≢true}
 use mathlib.Core.Path.{_≡_, refl, sym, _∙_}
+use Prim.Native.Nat.{ℕ}
+use lib.Dec.{eqb}
 use Rattle.model.specs.Base.{pick}
 
 -- what both values satisfy, each knowing the test, the choice satisfies
@@ -26,3 +28,12 @@ or-l false b h = refl
 pub or-r : (a b : Bool) → (a || b) ≡ false → b ≡ false
 or-r true b h = absurd (false≢true (sym h))
 or-r false b h = h
+
+-- a code that is 0 says that the test of a refusal failed, and that the next code is 0
+pub refused-if : (b : Bool) (k n : ℕ) → eqb k 0 ≡ false → eqb (pick b k n) 0 ≡ true → (b ≡ false) × (eqb n 0 ≡ true)
+refused-if true k n e h = opposed h e
+refused-if false k n e h = (refl, h)
+
+pub refused-unless : (b : Bool) (n k : ℕ) → eqb k 0 ≡ false → eqb (pick b n k) 0 ≡ true → (b ≡ true) × (eqb n 0 ≡ true)
+refused-unless true n k e h = (refl, h)
+refused-unless false n k e h = opposed h e

@@ -8,3 +8,4 @@ pub mod FifoRanges
 pub mod CoreRanges
 pub mod WriteRanges
 pub mod EventRanges
+pub mod Reached

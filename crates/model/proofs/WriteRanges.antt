@@ -22,7 +22,7 @@ use Rattle.model.specs.declared.Filters.{Filters}
 use Rattle.model.specs.declared.Core.{Core}
 use Rattle.model.specs.declared.Register.{Register}
 use Rattle.model.specs.declared.Register.the-variants.{Mcr, Msr, Tsr, Rfr, Ier, Esr, Btr, Ti, Tdt, Tdl, Tdh, Ri, Rdt, Rdl, Rdh, Fmr, Fm1r, Fs1r, Ffa1r, Fa1r, R1, R2, Absent}
-use Rattle.model.proofs.Choices.{pick-cases}
+use Rattle.model.proofs.Choices.{pick-cases, refused-if}
 use Rattle.model.proofs.Masks.{filter-masked}
 use Rattle.model.proofs.ControlRanges.{mcr-written-range, msr-written-range, ier-written-range, btr-written-range, master-reset-range, esr-written-range}
 use Rattle.model.proofs.MailboxRanges.{tdt-written-range, tdl-written-range, tdh-written-range, dropped-range, tsr-written-range, with-mailbox-range, requested-by-range}
@@ -82,11 +82,6 @@ aborted-all-wire : (q : Queue) (f : MailboxBits) → abortedAll q f .transmittin
 unfolding abortedAll
 aborted-all-wire q f = aborted-wire (f .m2) _ M2 ∙ (aborted-wire (f .m1) _ M1 ∙ aborted-wire (f .m0) q M0)
 
--- a refusal that is 2 where a test says so
-granted : (b : Bool) → eqb (pick b 2 0) 0 ≡ true → b ≡ false
-granted true h = absurd (false≢true h)
-granted false h = refl
-
 module _ (c : Core) (r : CoreRange c) where
   core-reset-range : CoreRange (coreReset c)
   unfolding coreReset masterReset
@@ -145,7 +140,7 @@ written-range (Rfr f) c w r l h = with-fifo-range c r f (rfrWritten (fifoOf f c)
 written-range Ier c w r l h = ier-core-range c r w
 written-range Esr c w r l h = esr-core-range c r w
 written-range Btr c w r l h = btr-core-range c r w
-written-range (Ti m) c w r l h = ti-core-range c r m w l (granted (hasRequest c m) h)
+written-range (Ti m) c w r l h = ti-core-range c r m w l (refused-if (hasRequest c m) 2 0 refl h .0)
 written-range (Tdt m) c w r l h =
     same-wire-range c r _ (with-mailbox-range (c .transmit) (r .transmit) m _ (tdt-written-range (at (c .transmit .mailboxes) m) (r .transmit .mailboxes m) w)) refl
 written-range (Tdl m) c w r l h =
