@@ -11,17 +11,19 @@ use Rattle.model.specs.Queue.{isEmpty, isNobody, emptied, freed, offWire
 use Rattle.model.specs.Mailboxes.{at, tdtMasked, identifiers, firstOf, started, ended, over}
 use Rattle.model.specs.Search.{acceptance}
 use Rattle.model.specs.Reception.{malformed, storedFrame, sentFrame, received, fmiOf}
-use Rattle.model.specs.Control.{txfp, rflm, nart, lbkm, silm, isSleep, isNormal, boff, idled, idleErrors, ticked, woken, outcomeErrors, receivedErrors, faultErrors, noticed}
+use Rattle.model.specs.Control.{inrq, sleep, txfp, rflm, modeNext, nart, lbkm, silm, isSleep, isNormal, boff, idled, idleErrors, ticked, woken, outcomeErrors, receivedErrors, faultErrors, noticed}
 use Rattle.model.specs.Control as control
 use Rattle.model.specs.Registers.{bankCount, isFree, withControl, withErrors, withTransmit}
 use Rattle.model.specs.Step.{mayStart, mayEnd, mayReceive, faultInRange, storedBy, startedBy, loopedBack, endedBy, settled}
-use Rattle.model.specs.Reachable.{carried, ControlRange, MailboxRange, WireRange, FrameRange, CoreRange}
+use Rattle.model.specs.Reachable.{carried, Followed, ControlRange, MailboxRange, WireRange, FrameRange, CoreRange}
 use Rattle.model.specs.declared.Mailbox.{Mailbox}
 use Rattle.model.specs.declared.Sender.{Sender}
 use Rattle.model.specs.declared.Sender.the-variants.{Nobody, From}
 use Rattle.model.specs.declared.Fifo.{Fifo}
 use Rattle.model.specs.declared.Fifo.the-variants.{F0, F1}
 use Rattle.model.specs.declared.Queue.{Queue}
+use Rattle.model.specs.declared.Mode.{Mode}
+use Rattle.model.specs.declared.Mode.the-variants.{Sleep, Initialization, Normal}
 use Rattle.model.specs.declared.Control.{Control}
 use Rattle.model.specs.declared.Errors.{Errors}
 use Rattle.model.specs.declared.Transmit.{Transmit}
@@ -41,10 +43,10 @@ use Rattle.model.proofs.CoreRanges.{free-wire-range, with-errors-range,
 
 -- ---- the mode rule
 
-settled-normal : (k : Control) (free off : Bool) → free ≡ false → isNormal (k .mode) ≡ true → isNormal (control.settled k free off .mode) ≡ true
+-- with an own frame on the wire it changes nothing
+settled-busy : (k : Control) (free off : Bool) → free ≡ false → control.settled k free off ≡ k
 unfolding control.settled
-settled-normal k true off e h = absurd (false≢true (sym e))
-settled-normal k false off e h = h
+settled-busy k free off e = rw e
 
 pub settled-core-range : (c : Core) → CoreRange c → CoreRange (settled c)
 unfolding settled
@@ -53,7 +55,31 @@ settled-core-range c r =
     (settled-range (c .control) (r .control) (isFree c) (boff (c .errors)))
     (r .errors)
     (settled-recovery-range (c .control) (c .errors) (r .recovery) (isFree c))
-    (record { normal = λ busy. settled-normal (c .control) (isFree c) (boff (c .errors)) busy (r .wire .normal busy); on = r .wire .on })
+    (record {
+      normal = λ busy. rw (settled-busy (c .control) (isFree c) (boff (c .errors)) busy) (r .wire .normal busy);
+      on = r .wire .on;
+      heard = λ busy. rw (settled-busy (c .control) (isFree c) (boff (c .errors)) busy) (r .wire .heard busy);
+    })
+
+-- once is enough
+mode-next-twice : (m : Mode) (i s : Bool) → modeNext (modeNext m i s) i s ≡ modeNext m i s
+unfolding modeNext
+mode-next-twice Sleep true true = refl
+mode-next-twice Sleep true false = refl
+mode-next-twice Sleep false true = refl
+mode-next-twice Sleep false false = refl
+mode-next-twice Initialization true true = refl
+mode-next-twice Initialization true false = refl
+mode-next-twice Initialization false true = refl
+mode-next-twice Initialization false false = refl
+mode-next-twice Normal true true = refl
+mode-next-twice Normal true false = refl
+mode-next-twice Normal false true = refl
+mode-next-twice Normal false false = refl
+
+pub settled-followed : (c : Core) → Followed (settled c)
+unfolding settled control.settled control.entered
+settled-followed c free = rw free (mode-next-twice (c .control .mode) (inrq (c .control)) (sleep (c .control)))
 
 -- ---- what a start and a frame from the bus need
 
@@ -73,6 +99,12 @@ ready c x y may =
 start-ready : (c : Core) → mayStart c ≡ true → Ready c
 unfolding mayStart
 start-ready c may = ready c (not (isEmpty (c .transmit .queue .order))) (not (silm (c .control) && not (lbkm (c .control)))) may
+
+start-heard : (c : Core) → mayStart c ≡ true → (silm (c .control) && not (lbkm (c .control))) ≡ false
+unfolding mayStart
+start-heard c may =
+    not-true (silm (c .control) && not (lbkm (c .control)))
+    (and-r (isNormal (c .control .mode) && not (boff (c .errors)) && isFree c && not (isEmpty (c .transmit .queue .order))) (not (silm (c .control) && not (lbkm (c .control)))) may)
 
 receive-ready : (c : Core) → mayReceive c ≡ true → Ready c
 unfolding mayReceive
@@ -109,24 +141,24 @@ module _ (c : Core) (r : CoreRange c) where
 
   pub bit-times-range : (n : ℕ) → CoreRange (withControl c (ticked (c .control) n))
   unfolding ticked
-  bit-times-range n = with-words-range c r (ticked (c .control) n) (ticked-range (c .control) (r .control) n) refl refl refl
+  bit-times-range n = with-words-range c r (ticked (c .control) n) (ticked-range (c .control) (r .control) n) refl refl refl refl
 
   pub activity-range : CoreRange (withControl c (woken (c .control)))
   unfolding woken
-  activity-range = with-words-range c r (woken (c .control)) (woken-range (c .control) (r .control)) refl refl refl
+  activity-range = with-words-range c r (woken (c .control)) (woken-range (c .control) (r .control)) refl refl refl refl
 
 -- ---- start
 
-  start-by : (v : Sender) → carried v (c .transmit .queue .order) ≡ true → Ready c → CoreRange (startedBy v c)
+  start-by : (v : Sender) → carried v (c .transmit .queue .order) ≡ true → Ready c → (silm (c .control) && not (lbkm (c .control))) ≡ false → CoreRange (startedBy v c)
   unfolding startedBy
-  start-by Nobody h y = r
-  start-by (From m) h y =
+  start-by Nobody h y a = r
+  start-by (From m) h y a =
       with-transmit-range c r (started (c .transmit) m (c .control .timer))
       (started-range (c .transmit) (r .transmit) m (c .control .timer) (r .control .timer) (y .free) h)
-      (record { normal = λ _. y .normal; on = λ _. y .on })
+      (record { normal = λ _. y .normal; on = λ _. y .on; heard = λ _. a })
 
   pub start-range : mayStart c ≡ true → CoreRange (startedBy (firstOf (txfp (c .control)) (c .transmit)) c)
-  start-range may = start-by _ (first-carried (txfp (c .control)) (identifiers (c .transmit .mailboxes)) (c .transmit .queue .order)) (start-ready c may)
+  start-range may = start-by _ (first-carried (txfp (c .control)) (identifiers (c .transmit .mailboxes)) (c .transmit .queue .order)) (start-ready c may) (start-heard c may)
 
 -- ---- what is stored
 
@@ -136,7 +168,7 @@ module _ (c : Core) (r : CoreRange c) where
     control = r .control;
     errors = r .errors;
     recovery = r .recovery;
-    wire = record { normal = r .wire .normal; on = r .wire .on };
+    wire = record { normal = r .wire .normal; on = r .wire .on; heard = r .wire .heard };
     transmit = r .transmit;
     fifo0 = received-range (c .fifo0) (r .fifo0) F0 a _ (rflm (c .control)) f;
     fifo1 = received-range (c .fifo1) (r .fifo1) F1 a _ (rflm (c .control)) f;

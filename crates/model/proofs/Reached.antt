@@ -8,12 +8,12 @@ use lib.Dec.{eqb, ltb, leb}
 use lib.ListN.{length, replicate}
 use Rattle.model.specs.Search.{acceptance}
 use Rattle.model.specs.Reception.{malformed, fmiOf}
-use Rattle.model.specs.Control.{isSleep, controlReset}
+use Rattle.model.specs.Control.{modeNext, controlReset}
 use Rattle.model.specs.Registers.{bankCount, isFree, registerAt, isAbsent, reset}
 use Rattle.model.specs.Step.{mayStart, mayEnd, mayReceive, faultInRange, refusal, applied, banksApplied, settled, coreAfter, banksAfter, answered, step}
 use Rattle.model.specs.Requests.{after}
 use Rattle.model.specs.Mailboxes.{at}
-use Rattle.model.specs.Reachable.{MailboxRange, Words, CoreRange, InRange, StepRange, StepsRange}
+use Rattle.model.specs.Reachable.{MailboxRange, Words, CoreRange, Followed, InRange, StepRange, StepsRange}
 use Rattle.model.specs.declared.Mailbox.{Mailbox}
 use Rattle.model.specs.declared.Mailbox.the-variants.{M0, M1, M2}
 use Rattle.model.specs.declared.Fifo.{Fifo}
@@ -30,7 +30,7 @@ use Rattle.model.proofs.MailboxRanges.{empty-mailbox-range}
 use Rattle.model.proofs.FifoRanges.{empty-fifo-range, fmi-of-range}
 use Rattle.model.proofs.CoreRanges.{free-wire-range}
 use Rattle.model.proofs.WriteRanges.{written-range, banks-written-length, banks-written-words}
-use Rattle.model.proofs.EventRanges.{settled-core-range, idle-range, bit-times-range, activity-range, start-range, receive-range, receive-error-range, end-range}
+use Rattle.model.proofs.EventRanges.{settled-core-range, settled-followed, idle-range, bit-times-range, activity-range, start-range, receive-range, receive-error-range, end-range}
 
 -- ---- hardware reset
 
@@ -57,8 +57,8 @@ zero-words zero = tt
 zero-words (suc n) = (omega arith, zero-words n)
 
 pub reset-in-range : InRange reset
-unfolding reset
-reset-in-range = record { core = reset-core-range; bankWords = refl; banks = zero-words 28 }
+unfolding reset controlReset modeNext
+reset-in-range = record { core = reset-core-range; mode = λ _. refl; bankWords = refl; banks = zero-words 28 }
 
 -- ---- one step
 
@@ -117,6 +117,7 @@ module _ (fmi-small : (n : ℕ) (g : Filters) (v : List ℕ) (w : ℕ) (f : Fifo
       let done : Bool = eqb (refusal (z .core) s) 0 in
       record {
         core = pick-cases CoreRange done _ _ (λ h. settled-core-range _ (applied-range (z .core) (z .banks) s (r .core) l h)) (λ _. r .core);
+        mode = pick-cases Followed done _ _ (λ _. settled-followed _) (λ _. r .mode);
         bankWords = pick-cases (λ (v : List ℕ). length v ≡ 2 * bankCount) done _ _ (λ _. banks-length (z .banks) s (r .bankWords)) (λ _. r .bankWords);
         banks = pick-cases Words done _ _ (λ _. banks-words (z .banks) s (r .banks) l) (λ _. r .banks);
       }

@@ -9,20 +9,21 @@ use lib.ListN.{length, set, length-set}
 use Rattle.model.specs.Base.{pick, bit}
 use Rattle.model.specs.Queue.{holds, isFrom, aborted, abortedAll}
 use Rattle.model.specs.Mailboxes.{at, requestedBy, tdtWritten, tdlWritten, tdhWritten, tsrWritten, abrq, dropped}
-use Rattle.model.specs.Control.{masterReset, mcrWritten, msrWritten, ierWritten, btrWritten, esrWritten}
+use Rattle.model.specs.Control.{isInitialization, isNormal, masterReset, mcrWritten, msrWritten, ierWritten, btrWritten, esrWritten}
 use Rattle.model.specs.Reception.{emptyFifo, rfrWritten}
-use Rattle.model.specs.Registers.{bankCount, withFilterWords, filterMasked, fifoOf, hasRequest, coreReset, written, banksWritten, writeRefusal}
+use Rattle.model.specs.Registers.{bankCount, withFilterWords, filterMasked, fifoOf, hasRequest, isFree, coreReset, written, banksWritten, writeRefusal}
 use Rattle.model.specs.Reachable.{RecoveryRange, FilterRange, Words, CoreRange}
 use Rattle.model.specs.declared.Mailbox.{Mailbox}
 use Rattle.model.specs.declared.Mailbox.the-variants.{M0, M1, M2}
 use Rattle.model.specs.declared.Sender.{Sender}
 use Rattle.model.specs.declared.MailboxBits.{MailboxBits}
 use Rattle.model.specs.declared.Queue.{Queue}
-use Rattle.model.specs.declared.Filters.{Filters}
+use Rattle.model.specs.declared.Mode.{Mode}
+use Rattle.model.specs.declared.Mode.the-variants.{Sleep, Initialization, Normal}
 use Rattle.model.specs.declared.Core.{Core}
 use Rattle.model.specs.declared.Register.{Register}
 use Rattle.model.specs.declared.Register.the-variants.{Mcr, Msr, Tsr, Rfr, Ier, Esr, Btr, Ti, Tdt, Tdl, Tdh, Ri, Rdt, Rdl, Rdh, Fmr, Fm1r, Fs1r, Ffa1r, Fa1r, R1, R2, Absent}
-use Rattle.model.proofs.Choices.{pick-cases, refused-if}
+use Rattle.model.proofs.Choices.{pick-cases, opposed, refused-if, refused-unless}
 use Rattle.model.proofs.Masks.{filter-masked}
 use Rattle.model.proofs.ControlRanges.{mcr-written-range, msr-written-range, ier-written-range, btr-written-range, master-reset-range, esr-written-range}
 use Rattle.model.proofs.MailboxRanges.{tdt-written-range, tdl-written-range, tdh-written-range, dropped-range, tsr-written-range, with-mailbox-range, requested-by-range}
@@ -82,6 +83,11 @@ aborted-all-wire : (q : Queue) (f : MailboxBits) → abortedAll q f .transmittin
 unfolding abortedAll
 aborted-all-wire q f = aborted-wire (f .m2) _ M2 ∙ (aborted-wire (f .m1) _ M1 ∙ aborted-wire (f .m0) q M0)
 
+not-normal : (m : Mode) → isInitialization m ≡ true → isNormal m ≡ false
+not-normal Sleep h = refl
+not-normal Initialization h = refl
+not-normal Normal h = absurd (false≢true h)
+
 module _ (c : Core) (r : CoreRange c) where
   core-reset-range : CoreRange (coreReset c)
   unfolding coreReset masterReset
@@ -100,26 +106,34 @@ module _ (c : Core) (r : CoreRange c) where
   unfolding written mcrWritten
   mcr-core-range w =
       pick-cases CoreRange (bit 15 w) (coreReset c) _ (λ _. core-reset-range)
-      (λ _. with-words-range c r (mcrWritten (c .control) w) (mcr-written-range (c .control) (r .control) w) refl refl refl)
+      (λ _. with-words-range c r (mcrWritten (c .control) w) (mcr-written-range (c .control) (r .control) w) refl refl refl refl)
 
   msr-core-range : (w : ℕ) → CoreRange (written Msr c w)
   unfolding written msrWritten
-  msr-core-range w = with-words-range c r (msrWritten (c .control) w) (msr-written-range (c .control) (r .control) w) refl refl refl
+  msr-core-range w = with-words-range c r (msrWritten (c .control) w) (msr-written-range (c .control) (r .control) w) refl refl refl refl
 
   ier-core-range : (w : ℕ) → CoreRange (written Ier c w)
   unfolding written ierWritten
-  ier-core-range w = with-words-range c r (ierWritten (c .control) w) (ier-written-range (c .control) (r .control) w) refl refl refl
+  ier-core-range w = with-words-range c r (ierWritten (c .control) w) (ier-written-range (c .control) (r .control) w) refl refl refl refl
 
-  btr-core-range : (w : ℕ) → CoreRange (written Btr c w)
+  -- in Initialization no own frame is on the wire
+  initialization-free : (b : Bool) → isFree c ≡ b → isInitialization (c .control .mode) ≡ true → isFree c ≡ true
+  initialization-free true e h = e
+  initialization-free false e h = opposed (r .wire .normal e) (not-normal (c .control .mode) h)
+
+  btr-core-range : (w : ℕ) → isInitialization (c .control .mode) ≡ true → CoreRange (written Btr c w)
   unfolding written btrWritten
-  btr-core-range w = with-words-range c r (btrWritten (c .control) w) (btr-written-range (c .control) (r .control) w) refl refl refl
+  btr-core-range w h =
+      with-errors-range c r (btrWritten (c .control) w) (c .errors) (btr-written-range (c .control) (r .control) w) (r .errors)
+      (record { count = r .recovery .count; initialized = r .recovery .initialized })
+      (free-wire-range _ (initialization-free (isFree c) refl h))
 
   esr-core-range : (w : ℕ) → CoreRange (written Esr c w)
   unfolding written esrWritten
   esr-core-range w =
       with-errors-range c r (c .control) (esrWritten (c .errors) w) (r .control) (esr-written-range (c .errors) (r .errors) w)
       (record { count = r .recovery .count; initialized = r .recovery .initialized })
-      (record { normal = r .wire .normal; on = r .wire .on })
+      (record { normal = r .wire .normal; on = r .wire .on; heard = r .wire .heard })
 
   tsr-core-range : (w : ℕ) → CoreRange (written Tsr c w)
   unfolding written tsrWritten
@@ -139,7 +153,7 @@ written-range Tsr c w r l h = tsr-core-range c r w
 written-range (Rfr f) c w r l h = with-fifo-range c r f (rfrWritten (fifoOf f c) w) (rfr-written-range (fifoOf f c) w (fifo-of-range c r f))
 written-range Ier c w r l h = ier-core-range c r w
 written-range Esr c w r l h = esr-core-range c r w
-written-range Btr c w r l h = btr-core-range c r w
+written-range Btr c w r l h = btr-core-range c r w (refused-unless (isInitialization (c .control .mode)) 0 2 refl h .0)
 written-range (Ti m) c w r l h = ti-core-range c r m w l (refused-if (hasRequest c m) 2 0 refl h .0)
 written-range (Tdt m) c w r l h =
     same-wire-range c r _ (with-mailbox-range (c .transmit) (r .transmit) m _ (tdt-written-range (at (c .transmit .mailboxes) m) (r .transmit .mailboxes m) w)) refl

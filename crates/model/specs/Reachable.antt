@@ -10,7 +10,7 @@ use Rattle.model.specs.Base.{pick, bit, bits}
 use Rattle.model.specs.Queue.{same, flag, holds, isFrom, isNobody}
 use Rattle.model.specs.Mailboxes.{at, tdtMasked}
 use Rattle.model.specs.Reception.{noFrame}
-use Rattle.model.specs.Control.{ttcm, isSleep, isNormal, boff, mcrMasked, ierMasked, btrMasked}
+use Rattle.model.specs.Control.{inrq, sleep, ttcm, lbkm, silm, modeNext, isSleep, isNormal, boff, mcrMasked, ierMasked, btrMasked}
 use Rattle.model.specs.Registers.{bankCount, filterMasked, isFree}
 use Rattle.model.specs.declared.Mailbox.{Mailbox}
 use Rattle.model.specs.declared.Sender.{Sender}
@@ -123,10 +123,11 @@ pub record RecoveryRange (k : Control) (e : Errors) : Type 0 where
   pub count : boff e ≡ false → k .recovery ≡ 0
   pub initialized : boff e ≡ false → k .initialized ≡ false
 
--- with an own frame on the wire: Normal and not bus-off
+-- with an own frame on the wire: Normal, not bus-off, and not SILM=1 with LBKM=0
 pub record WireRange (c : Core) : Type 0 where
   pub normal : isFree c ≡ false → isNormal (c .control .mode) ≡ true
   pub on : isFree c ≡ false → boff (c .errors) ≡ false
+  pub heard : isFree c ≡ false → (silm (c .control) && not (lbkm (c .control))) ≡ false
 
 -- ---- the controller
 
@@ -140,8 +141,13 @@ pub record CoreRange (c : Core) : Type 0 where
   pub fifo1 : FifoRange (c .fifo1)
   pub filters : FilterRange (c .filters)
 
+-- with no own frame on the wire the mode has followed INRQ and SLEEP
+abbrev pub Followed : Core → Type 0
+Followed c = isFree c ≡ true → modeNext (c .control .mode) (inrq (c .control)) (sleep (c .control)) ≡ c .control .mode
+
 pub record InRange (z : Controller) : Type 0 where
   pub core : CoreRange (z .core)
+  pub mode : Followed (z .core)
   pub bankWords : length (z .banks) ≡ 2 * bankCount
   pub banks : Words (z .banks)
 
