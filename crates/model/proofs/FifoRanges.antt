@@ -4,14 +4,14 @@ use mathlib.Core.List.{List}
 use mathlib.Core.Path.{_≡_, refl, sym, ap, _∙_}
 use Prim.Native.Nat.{ℕ, _+_, _*_, _-_, _/_, _%_, _^_, _<_, _≤_}
 use native.Mathlib.Omega.{arith}
-use native.Mathlib.Nat.{mod-le}
+use native.Mathlib.Nat.{mod-le, mod-mod}
 use lib.Dec.{eqb, ltb, leb}
 use borrow.Author.Tests.{eqb-true, eqb-false, ltb-false, not-false}
 use Rattle.model.specs.Base.{pick, bit, bits}
 use Rattle.model.specs.Mailboxes.{sentIdentifier}
 use Rattle.model.specs.Reception.{malformed, dataBytes, bytesKept, storedFrame, sentFrame, noFrame, emptyFifo, pushed, goesInto, fmiOf, received, released, cleared, rfrWritten}
 use Rattle.model.specs.Registers.{bankCount}
-use Rattle.model.specs.Reachable.{MailboxRange, IdentifierRange, FrameRange, FifoRange}
+use Rattle.model.specs.Reachable.{MailboxRange, IdentifierRange, frameOf, FrameRange, FifoRange}
 use Rattle.model.specs.declared.Fifo.{Fifo}
 use Rattle.model.specs.declared.Fifo.the-variants.{F0, F1}
 use Rattle.model.specs.declared.StoredFrame.{StoredFrame}
@@ -22,7 +22,7 @@ use Rattle.model.specs.declared.MailboxState.{MailboxState}
 use Rattle.model.specs.declared.Acceptance.{Acceptance}
 use Rattle.model.specs.declared.Acceptance.the-variants.{Into, Rejected}
 use Rattle.model.proofs.Choices.{pick-cases, or-l, or-r, opposed}
-use Rattle.model.proofs.Masks.{field}
+use Rattle.model.proofs.Masks.{field, lowest}
 
 -- ---- identifiers
 
@@ -68,7 +68,16 @@ bytes-kept-word : (n w : ℕ) → w < 2 ^ 32 → bytesKept n w < 2 ^ 32
 unfolding bytesKept
 bytes-kept-word n w l = pick-cases (λ (x : ℕ). x < 2 ^ 32) (leb 4 n) _ _ (λ _. l) (λ _. omega (arith, mod-le w (2 ^ (8 * n))))
 
+kept-twice : (b : Bool) (w k : ℕ) → pick b (pick b w (w % k)) (pick b w (w % k) % k) ≡ pick b w (w % k)
+kept-twice true w k = refl
+kept-twice false w k = mod-mod w k
+
+bytes-kept-twice : (n w : ℕ) → bytesKept n (bytesKept n w) ≡ bytesKept n w
+unfolding bytesKept
+bytes-kept-twice n w = kept-twice (leb 4 n) w (2 ^ (8 * n))
+
 pub no-frame-range : FrameRange noFrame
+unfolding dataBytes bytesKept
 no-frame-range = record {
   ri = record { word = omega arith; even = refl; standard = λ _. refl };
   rdt = omega arith;
@@ -76,7 +85,13 @@ no-frame-range = record {
   fmi = omega arith;
   rdl = omega arith;
   rdh = omega arith;
+  low = refl;
+  high = refl;
 }
+
+data-bytes-stored : (x : Frame) (fmi time : ℕ) → (x .length + fmi * 256 + time * 65536) % 16 ≡ x .length → dataBytes (frameOf (storedFrame x fmi time)) ≡ dataBytes x
+unfolding dataBytes storedFrame
+data-bytes-stored x fmi time e = rw e
 
 pub stored-range : (x : Frame) (fmi time : ℕ) → IdentifierRange (x .identifier) → x .low < 2 ^ 32 → x .high < 2 ^ 32 → x .length < 16
     → fmi < 4 * bankCount → time < 65536 → FrameRange (storedFrame x fmi time)
@@ -84,6 +99,8 @@ unfolding storedFrame
 stored-range x fmi time i l h n f t =
     let w : ℕ = x .length + fmi * 256 + time * 65536 in
     let e : bits 8 8 w ≡ fmi = field 256 256 w time fmi (x .length) (omega arith) (omega arith) (omega arith) in
+    let d : dataBytes (frameOf (storedFrame x fmi time)) ≡ dataBytes x
+        = data-bytes-stored x fmi time (lowest 16 w (fmi * 16 + time * 4096) (x .length) (omega arith) n) in
     record {
       ri = i;
       rdt = omega arith;
@@ -91,6 +108,8 @@ stored-range x fmi time i l h n f t =
       fmi = rw e f;
       rdl = bytes-kept-word (dataBytes x) (x .low) l;
       rdh = bytes-kept-word (dataBytes x - 4) (x .high) h;
+      low = rw d (bytes-kept-twice (dataBytes x) (x .low));
+      high = rw d (bytes-kept-twice (dataBytes x - 4) (x .high));
     }
 
 -- ---- FIFOs

@@ -1,12 +1,13 @@
 -- Mailbox words, and mailboxes with their requests, stay in their ranges.
-use mathlib.Core.Bool.{Bool, true, false, not, _&&_, _||_, false≢true}
+use mathlib.Core.Bool.{Bool, true, false, not, _&&_, _||_, or-true}
 use mathlib.Core.Path.{_≡_, refl, sym, ap, _∙_}
-use Prim.Native.Nat.{ℕ, _+_, _*_, _/_, _%_, _^_, _<_}
+use Prim.Native.Nat.{ℕ, _+_, _*_, _/_, _%_, _^_, _<_, _≤_}
 use native.Mathlib.Omega.{arith}
 use lib.Dec.{eqb}
-use Rattle.model.specs.Base.{pick, bit}
+use borrow.Author.Tests.{eqb-true}
+use Rattle.model.specs.Base.{pick, bit, one}
 use Rattle.model.specs.Queue.{flag, holds, isNobody, requested, sending, offWire}
-use Rattle.model.specs.Mailboxes.{at, put, withWords, withFlags, emptyMailbox, tiWritten, tdtWritten, tdlWritten, tdhWritten, withMailbox, requestedBy, cleared, completed, abrq, tsrWritten, dropped, started, over, outcomeFlags, ended}
+use Rattle.model.specs.Mailboxes.{at, put, withWords, withFlags, emptyMailbox, tdtMasked, tiWritten, tdtWritten, tdlWritten, tdhWritten, withMailbox, requestedBy, cleared, completed, abrq, tsrWritten, dropped, started, over, outcomeFlags, ended}
 use Rattle.model.specs.Reachable.{QueueRange, MailboxRange, TransmitRange}
 use Rattle.model.specs.declared.Mailbox.{Mailbox}
 use Rattle.model.specs.declared.Mailbox.the-variants.{M0, M1, M2}
@@ -14,46 +15,97 @@ use Rattle.model.specs.declared.Sender.the-variants.{From}
 use Rattle.model.specs.declared.MailboxState.{MailboxState}
 use Rattle.model.specs.declared.Mailboxes.{Mailboxes}
 use Rattle.model.specs.declared.Transmit.{Transmit}
-use Rattle.model.proofs.Choices.{pick-cases, or-r}
+use Rattle.model.proofs.Choices.{pick-cases, and-l, and-r, or-r}
 use Rattle.model.proofs.Masks.{tdt-masked, tdt-timed}
 use Rattle.model.proofs.QueueRanges.{no-requests-range, aborted-all-range, requested-range, sending-range, off-wire-range}
+
+-- ---- flags
+
+fewer : (a b : Bool) → one (a && b) ≤ one a
+fewer true true = omega arith
+fewer true false = omega arith
+fewer false b = omega arith
+
+both : (a b : Bool) → a ≡ true → b ≡ true → (a && b) ≡ true
+both a b h k = rw (h, k)
+
+either : (a b : Bool) → a ≡ true → (a || b) ≡ true
+either a b h = rw h
+
+-- of a good end, a lost arbitration and an error only one is the case
+one-result : (n : ℕ) (a b : Bool) → eqb n 0 ≡ a → eqb n 7 ≡ b → one a + one b + one (not a && not b) ≤ 1
+one-result n true true e k = absurd (let z : n ≡ 0 = eqb-true _ _ e in let s : n ≡ 7 = eqb-true _ _ k in omega arith)
+one-result n true false e k = omega arith
+one-result n false true e k = omega arith
+one-result n false false e k = omega arith
 
 -- ---- one mailbox
 
 pub empty-mailbox-range : MailboxRange emptyMailbox
-empty-mailbox-range = record { ti = omega arith; even = refl; tdt = refl; tdl = omega arith; tdh = omega arith }
+empty-mailbox-range = record { ti = omega arith; even = refl; tdt = refl; tdl = omega arith; tdh = omega arith; completes = λ h. h; result = omega arith }
 
 module _ (x : MailboxState) (r : MailboxRange x) where
-  flags-range : (c o a e : Bool) → MailboxRange (withFlags x c o a e)
-  flags-range c o a e = record { ti = r .ti; even = r .even; tdt = r .tdt; tdl = r .tdl; tdh = r .tdh }
+  -- words change, flags do not
+  words-range : (i t l h : ℕ) → i < 2 ^ 32 → i / 2 * 2 ≡ i → tdtMasked t ≡ t → l < 2 ^ 32 → h < 2 ^ 32 → MailboxRange (withWords x i t l h)
+  words-range i t l h li e ht ll lh = record { ti = li; even = e; tdt = ht; tdl = ll; tdh = lh; completes = r .completes; result = r .result }
 
-  ti-written-range : (w : ℕ) → w < 2 ^ 32 → MailboxRange (tiWritten x w)
-  unfolding tiWritten
-  ti-written-range w l = record { ti = omega arith; even = omega arith; tdt = r .tdt; tdl = r .tdl; tdh = r .tdh }
+  -- flags change, words do not
+  flags-range : (c o a e : Bool) → (o ≡ true → c ≡ true) → one o + one a + one e ≤ 1 → MailboxRange (withFlags x c o a e)
+  flags-range c o a e k n = record { ti = r .ti; even = r .even; tdt = r .tdt; tdl = r .tdl; tdh = r .tdh; completes = k; result = n }
 
   pub tdt-written-range : (w : ℕ) → MailboxRange (tdtWritten x w)
   unfolding tdtWritten
-  tdt-written-range w = record { ti = r .ti; even = r .even; tdt = tdt-masked w; tdl = r .tdl; tdh = r .tdh }
+  tdt-written-range w = words-range (x .ti) (tdtMasked w) (x .tdl) (x .tdh) (r .ti) (r .even) (tdt-masked w) (r .tdl) (r .tdh)
 
   pub tdl-written-range : (w : ℕ) → w < 2 ^ 32 → MailboxRange (tdlWritten x w)
   unfolding tdlWritten
-  tdl-written-range w l = record { ti = r .ti; even = r .even; tdt = r .tdt; tdl = l; tdh = r .tdh }
+  tdl-written-range w l = words-range (x .ti) (x .tdt) w (x .tdh) (r .ti) (r .even) (r .tdt) l (r .tdh)
 
   pub tdh-written-range : (w : ℕ) → w < 2 ^ 32 → MailboxRange (tdhWritten x w)
   unfolding tdhWritten
-  tdh-written-range w l = record { ti = r .ti; even = r .even; tdt = r .tdt; tdl = r .tdl; tdh = l }
+  tdh-written-range w l = words-range (x .ti) (x .tdt) (x .tdl) w (r .ti) (r .even) (r .tdt) (r .tdl) l
 
   timed-range : (t : ℕ) → t < 65536 → MailboxRange (withWords x (x .ti) (x .tdt % 65536 + t * 65536) (x .tdl) (x .tdh))
-  timed-range t l = record { ti = r .ti; even = r .even; tdt = tdt-timed (x .tdt) t (r .tdt) l; tdl = r .tdl; tdh = r .tdh }
+  timed-range t l = words-range (x .ti) _ (x .tdl) (x .tdh) (r .ti) (r .even) (tdt-timed (x .tdt) t (r .tdt) l) (r .tdl) (r .tdh)
 
-  -- TSR: the clears, then an abort
-  tsr-written-mailbox : (k w : ℕ) (b : Bool) → MailboxRange (completed (cleared x k w) b)
-  unfolding completed cleared
-  tsr-written-mailbox k w b = record { ti = r .ti; even = r .even; tdt = r .tdt; tdl = r .tdl; tdh = r .tdh }
+  cleared-range : (k w : ℕ) → MailboxRange (cleared x k w)
+  unfolding cleared
+  cleared-range k w =
+      let n : one (x .txok) + one (x .alst) + one (x .terr) ≤ 1 = r .result in
+      let b : Bool = not (bit k w) in
+      flags-range (x .rqcp && b) (x .txok && b && not (bit (k + 1) w)) (x .alst && b && not (bit (k + 2) w)) (x .terr && b && not (bit (k + 3) w))
+      (λ h. let o : (x .txok && b) ≡ true = and-l (x .txok && b) (not (bit (k + 1) w)) h in
+      both (x .rqcp) b (r .completes (and-l (x .txok) b o)) (and-r (x .txok) b o))
+      (omega (arith, fewer (x .txok && b) (not (bit (k + 1) w)), fewer (x .alst && b) (not (bit (k + 2) w)), fewer (x .terr && b) (not (bit (k + 3) w)), fewer (x .txok) b, fewer (x .alst) b, fewer (x .terr) b))
 
-  outcome-flags-range : (n : ℕ) (done : Bool) → MailboxRange (outcomeFlags x n done)
+  completed-range : (b : Bool) → MailboxRange (completed x b)
+  unfolding completed
+  completed-range b =
+      let n : one (x .txok) + one (x .alst) + one (x .terr) ≤ 1 = r .result in
+      flags-range (x .rqcp || b) (x .txok && not b) (x .alst) (x .terr)
+      (λ h. either (x .rqcp) b (r .completes (and-l (x .txok) (not b) h)))
+      (omega (arith, fewer (x .txok) (not b)))
+
+  outcome-flags-range : (n : ℕ) (done : Bool) → (eqb n 0 ≡ true → done ≡ true) → MailboxRange (outcomeFlags x n done)
   unfolding outcomeFlags
-  outcome-flags-range n done = record { ti = r .ti; even = r .even; tdt = r .tdt; tdl = r .tdl; tdh = r .tdh }
+  outcome-flags-range n done k =
+      flags-range (x .rqcp || done) (eqb n 0) (eqb n 7) (not (eqb n 0) && not (eqb n 7))
+      (λ h. rw (k h) (or-true (x .rqcp)))
+      (one-result n (eqb n 0) (eqb n 7) refl refl)
+
+  requested-flags-range : (b : Bool) → MailboxRange (withFlags x (x .rqcp && b) (x .txok && b) (x .alst && b) (x .terr && b))
+  requested-flags-range b =
+      let n : one (x .txok) + one (x .alst) + one (x .terr) ≤ 1 = r .result in
+      flags-range (x .rqcp && b) (x .txok && b) (x .alst && b) (x .terr && b)
+      (λ h. both (x .rqcp) b (r .completes (and-l (x .txok) b h)) (and-r (x .txok) b h))
+      (omega (arith, fewer (x .txok) b, fewer (x .alst) b, fewer (x .terr) b))
+
+ti-written-range : (x : MailboxState) (w : ℕ) → MailboxRange x → w < 2 ^ 32 → MailboxRange (tiWritten x w)
+unfolding tiWritten
+ti-written-range x w r l =
+    requested-flags-range (withWords x (w / 2 * 2) (x .tdt) (x .tdl) (x .tdh))
+    (words-range x r (w / 2 * 2) (x .tdt) (x .tdl) (x .tdh) (omega arith) (omega arith) (r .tdt) (r .tdl) (r .tdh))
+    (not (bit 0 w))
 
 -- ---- one of three
 
@@ -76,9 +128,9 @@ module _ (t : Transmit) (r : TransmitRange t) where
 
   tsr-written-mailboxes : (w : ℕ) (m : Mailbox) → MailboxRange (at (tsrWritten t w .mailboxes) m)
   unfolding tsrWritten
-  tsr-written-mailboxes w M0 = tsr-written-mailbox (t .mailboxes .m0) (r .mailboxes M0) _ _ _
-  tsr-written-mailboxes w M1 = tsr-written-mailbox (t .mailboxes .m1) (r .mailboxes M1) _ _ _
-  tsr-written-mailboxes w M2 = tsr-written-mailbox (t .mailboxes .m2) (r .mailboxes M2) _ _ _
+  tsr-written-mailboxes w M0 = completed-range _ (cleared-range (t .mailboxes .m0) (r .mailboxes M0) 0 w) _
+  tsr-written-mailboxes w M1 = completed-range _ (cleared-range (t .mailboxes .m1) (r .mailboxes M1) 8 w) _
+  tsr-written-mailboxes w M2 = completed-range _ (cleared-range (t .mailboxes .m2) (r .mailboxes M2) 16 w) _
 
   pub tsr-written-range : (w : ℕ) → TransmitRange (tsrWritten t w)
   unfolding tsrWritten
@@ -91,7 +143,7 @@ module _ (t : Transmit) (r : TransmitRange t) where
   unfolding requestedBy
   requested-by-range m w l n = record {
     queue = pick-cases QueueRange (bit 0 w) _ _ (λ _. requested-range (t .queue) m (r .queue) n) (λ _. r .queue);
-    mailboxes = put-all MailboxRange (t .mailboxes) m _ (r .mailboxes) (ti-written-range (at (t .mailboxes) m) (r .mailboxes m) w l);
+    mailboxes = put-all MailboxRange (t .mailboxes) m _ (r .mailboxes) (ti-written-range (at (t .mailboxes) m) w (r .mailboxes m) l);
   }
 
   pub started-range : (m : Mailbox) (time : ℕ) → time < 65536 → isNobody (t .queue .transmitting) ≡ true → holds (t .queue .order) m ≡ true → TransmitRange (started t m time)
@@ -105,5 +157,5 @@ module _ (t : Transmit) (r : TransmitRange t) where
   unfolding ended over
   ended-range m n nart e = record {
     queue = off-wire-range (t .queue) m (r .queue) e _ (or-r (eqb n 0 || nart) (flag (t .queue .aborts) m));
-    mailboxes = put-all MailboxRange (t .mailboxes) m _ (r .mailboxes) (outcome-flags-range (at (t .mailboxes) m) (r .mailboxes m) n _);
+    mailboxes = put-all MailboxRange (t .mailboxes) m _ (r .mailboxes) (outcome-flags-range (at (t .mailboxes) m) (r .mailboxes m) n _ (λ h. either (eqb n 0 || nart) _ (either (eqb n 0) nart h)));
   }

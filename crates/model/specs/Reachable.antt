@@ -3,13 +3,13 @@
 use mathlib.Core.Bool.{Bool, true, false, not, _&&_, _||_}
 use mathlib.Core.List.{List, [], _∷_}
 use mathlib.Core.Path.{_≡_}
-use Prim.Native.Nat.{ℕ, _+_, _*_, _/_, _%_, _^_, _<_, _≤_}
+use Prim.Native.Nat.{ℕ, _+_, _*_, _-_, _/_, _%_, _^_, _<_, _≤_}
 use lib.Dec.{eqb, ltb, leb}
 use lib.ListN.{length}
-use Rattle.model.specs.Base.{pick, bit, bits}
+use Rattle.model.specs.Base.{bit, bits, one}
 use Rattle.model.specs.Queue.{same, flag, holds, isFrom, isNobody}
 use Rattle.model.specs.Mailboxes.{at, tdtMasked}
-use Rattle.model.specs.Reception.{noFrame}
+use Rattle.model.specs.Reception.{dataBytes, bytesKept, noFrame}
 use Rattle.model.specs.Control.{inrq, sleep, ttcm, lbkm, silm, modeNext, isSleep, isNormal, boff, mcrMasked, ierMasked, btrMasked}
 use Rattle.model.specs.Registers.{bankCount, filterMasked, isFree}
 use Rattle.model.specs.declared.Mailbox.{Mailbox}
@@ -51,13 +51,15 @@ pub record QueueRange (q : Queue) : Type 0 where
   -- an abort is remembered only of the mailbox on the wire
   pub aborts : (m : Mailbox) → flag (q .aborts) m ≡ true → isFrom (q .transmitting) m ≡ true
 
--- TXRQ is not kept in `ti`
+-- TXRQ is not kept in `ti`; TXOK comes with RQCP, and with neither ALST nor TERR, which exclude each other
 pub record MailboxRange (x : MailboxState) : Type 0 where
   pub ti : x .ti < 2 ^ 32
   pub even : x .ti / 2 * 2 ≡ x .ti
   pub tdt : tdtMasked (x .tdt) ≡ x .tdt
   pub tdl : x .tdl < 2 ^ 32
   pub tdh : x .tdh < 2 ^ 32
+  pub completes : x .txok ≡ true → x .rqcp ≡ true
+  pub result : one (x .txok) + one (x .alst) + one (x .terr) ≤ 1
 
 pub record TransmitRange (t : Transmit) : Type 0 where
   pub queue : QueueRange (t .queue)
@@ -71,7 +73,11 @@ pub record IdentifierRange (w : ℕ) : Type 0 where
   pub even : bit 0 w ≡ false
   pub standard : bit 2 w ≡ false → bits 3 18 w ≡ 0
 
--- FMI is below 4 times the number of banks
+-- what a stored frame carries
+abbrev pub frameOf : StoredFrame → Frame
+frameOf x = record { identifier = x .ri; low = x .rdl; high = x .rdh; length = x .rdt % 16 }
+
+-- FMI is below 4 times the number of banks; bytes past the length are 0
 pub record FrameRange (x : StoredFrame) : Type 0 where
   pub ri : IdentifierRange (x .ri)
   pub rdt : x .rdt < 2 ^ 32
@@ -79,6 +85,8 @@ pub record FrameRange (x : StoredFrame) : Type 0 where
   pub fmi : bits 8 8 (x .rdt) < 4 * bankCount
   pub rdl : x .rdl < 2 ^ 32
   pub rdh : x .rdh < 2 ^ 32
+  pub low : bytesKept (dataBytes (frameOf x)) (x .rdl) ≡ x .rdl
+  pub high : bytesKept (dataBytes (frameOf x) - 4) (x .rdh) ≡ x .rdh
 
 -- places past the count hold zeros
 pub record FifoRange (q : FifoState) : Type 0 where
