@@ -1,6 +1,7 @@
 -- Facts on the few request orders of three mailboxes, each by one computed test.
 use mathlib.Core.Bool.{Bool, true, false, not, _&&_, _||_, false≢true}
-use mathlib.Core.Path.{_≡_, refl, subst}
+use mathlib.Core.Path.{_≡_, refl, ap, subst}
+use borrow.Author.Tests.{not-true}
 use Rattle.model.specs.Base.{pick}
 use Rattle.model.specs.Queue.{same, holds, joined, without, oldest, isFrom}
 use Rattle.model.specs.Mailboxes.{before, lowest, sooner, first}
@@ -70,6 +71,15 @@ kept-without o m x h n = modus (modus (each (λ o m x. imp (holds o m) (imp (not
 
 pub kept-joined : (o : RequestOrder) (m x : Mailbox) → holds o m ≡ true → holds (joined o x) m ≡ true
 kept-joined o m x h = modus (each (λ o m x. imp (holds o m) (holds (joined o x) m)) refl o m x) h
+
+pub gone-without : (o : RequestOrder) (x : Mailbox) → distinct o ≡ true → holds (without o x) x ≡ false
+gone-without o x ok = not-true (holds (without o x) x) (modus (each (λ o x a. imp (distinct o) (not (holds (without o x) x))) refl o x x) ok)
+
+pub held-before-without : (o : RequestOrder) (m x : Mailbox) → holds (without o x) m ≡ true → holds o m ≡ true
+held-before-without o m x h = modus (each (λ o m x. imp (holds (without o x) m) (holds o m)) refl o m x) h
+
+pub held-before-joined : (o : RequestOrder) (m x : Mailbox) → holds (joined o x) m ≡ true → same x m ≡ false → holds o m ≡ true
+held-before-joined o m x h n = modus (modus (each (λ o m x. imp (holds (joined o x) m) (imp (not (same x m)) (holds o m))) refl o m x) h) (ap not n)
 
 -- ---- the first in priority has a request
 

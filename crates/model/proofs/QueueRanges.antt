@@ -5,6 +5,7 @@ use Prim.Native.Nat.{ℕ, _+_, _*_, _/_, _%_, _^_, _<_}
 use native.Mathlib.Omega.{arith}
 use Rattle.model.specs.Base.{pick, bit}
 use Rattle.model.specs.Queue.{same, flag, flagged, holds, joined, without, isFrom, isNobody, noRequests, requested, emptied, remembered, aborted, abortedAll, sending, freed, offWire}
+use Rattle.model.specs.Mailboxes.{abortsPending}
 use Rattle.model.specs.Reachable.{distinct, carried, QueueRange}
 use Rattle.model.specs.declared.Mailbox.{Mailbox}
 use Rattle.model.specs.declared.Mailbox.the-variants.{M0, M1, M2}
@@ -14,7 +15,7 @@ use Rattle.model.specs.declared.RequestOrder.{RequestOrder}
 use Rattle.model.specs.declared.MailboxBits.{MailboxBits}
 use Rattle.model.specs.declared.Queue.{Queue}
 use Rattle.model.proofs.Choices.{pick-cases, opposed}
-use Rattle.model.proofs.OrderFacts.{distinct-without, distinct-joined, kept-without, kept-joined}
+use Rattle.model.proofs.OrderFacts.{distinct-without, distinct-joined, kept-without, kept-joined, gone-without, held-before-without}
 
 -- ---- a bit of three set or cleared
 
@@ -134,3 +135,36 @@ module _ (q : Queue) (m : Mailbox) (r : QueueRange q) where
 pub aborted-all-range : (q : Queue) (f : MailboxBits) → QueueRange q → QueueRange (abortedAll q f)
 unfolding abortedAll
 aborted-all-range q f r = aborted-range _ M2 (aborted-range _ M1 (aborted-range q M0 r (f .m0)) (f .m1)) (f .m2)
+
+-- ---- what an abort leaves
+
+pub aborted-wire : (b : Bool) (q : Queue) (m : Mailbox) → aborted b q m .transmitting ≡ q .transmitting
+unfolding aborted
+aborted-wire b q m =
+    pick-cases (λ (p : Queue). p .transmitting ≡ q .transmitting) (b && holds (q .order) m) _ _
+    (λ _. pick-cases (λ (p : Queue). p .transmitting ≡ q .transmitting) (isFrom (q .transmitting) m) _ _ (λ _. refl) (λ _. refl))
+    (λ _. refl)
+
+pub aborted-all-wire : (q : Queue) (f : MailboxBits) → abortedAll q f .transmitting ≡ q .transmitting
+unfolding abortedAll
+aborted-all-wire q f = aborted-wire (f .m2) _ M2 ∙ (aborted-wire (f .m1) _ M1 ∙ aborted-wire (f .m0) q M0)
+
+-- it adds no request
+pub held-before-aborted : (b : Bool) (q : Queue) (m x : Mailbox) → holds (aborted b q m .order) x ≡ true → holds (q .order) x ≡ true
+unfolding aborted
+held-before-aborted b q m x =
+    pick-cases (λ (p : Queue). holds (p .order) x ≡ true → holds (q .order) x ≡ true) (b && holds (q .order) m) _ _
+    (λ _. pick-cases (λ (p : Queue). holds (p .order) x ≡ true → holds (q .order) x ≡ true) (isFrom (q .transmitting) m) _ _
+    (λ _ h. h)
+    (λ _ h. held-before-without (q .order) x m h))
+    (λ _ h. h)
+
+-- a request that is still there was not aborted as a pending one
+pub kept-not-aborted : (b : Bool) (q : Queue) (m : Mailbox) → distinct (q .order) ≡ true → holds (aborted b q m .order) m ≡ true → abortsPending q m b ≡ false
+unfolding aborted
+kept-not-aborted b q m ok = kept (b && holds (q .order) m) (isFrom (q .transmitting) m)
+  where
+    kept : (t f : Bool) → holds (pick t (pick f (remembered q m) (emptied q m)) q .order) m ≡ true → (t && not f) ≡ false
+    kept true true h = refl
+    kept true false h = opposed h (gone-without (q .order) m ok)
+    kept false f h = refl

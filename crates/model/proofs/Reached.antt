@@ -1,5 +1,5 @@
 -- Every state that steps reach from hardware reset is in range.
-use mathlib.Core.Bool.{Bool, true, false}
+use mathlib.Core.Bool.{Bool, true, false, false≢true}
 use mathlib.Core.List.{List, [], _∷_}
 use mathlib.Core.Path.{_≡_, refl, _∙_}
 use Prim.Native.Nat.{ℕ, zero, suc, _*_, _<_}
@@ -41,7 +41,7 @@ reset-core-range = record {
   errors = record { tec = omega arith; rec = omega arith; lec = omega arith };
   recovery = record { count = λ _. refl; initialized = λ _. refl };
   wire = free-wire-range (reset .core) refl;
-  transmit = record { queue = no-requests-range; mailboxes = empty };
+  transmit = record { queue = no-requests-range; mailboxes = empty; pending = λ m h. absurd (false≢true h) };
   fifo0 = empty-fifo-range;
   fifo1 = empty-fifo-range;
   filters = record { mode = refl; scale = refl; assignment = refl; activation = refl };

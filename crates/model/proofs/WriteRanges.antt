@@ -26,7 +26,8 @@ use Rattle.model.specs.declared.Register.the-variants.{Mcr, Msr, Tsr, Rf
 use Rattle.model.proofs.Choices.{pick-cases, opposed, refused-if, refused-unless}
 use Rattle.model.proofs.Masks.{filter-masked}
 use Rattle.model.proofs.ControlRanges.{mcr-written-range, msr-written-range, ier-written-range, btr-written-range, master-reset-range, esr-written-range}
-use Rattle.model.proofs.MailboxRanges.{tdt-written-range, tdl-written-range, tdh-written-range, dropped-range, tsr-written-range, with-mailbox-range, requested-by-range}
+use Rattle.model.proofs.MailboxRanges.{dropped-range, tsr-written-range, tdt-transmit-range, tdl-transmit-range, tdh-transmit-range, requested-by-range}
+use Rattle.model.proofs.QueueRanges.{aborted-all-wire}
 use Rattle.model.proofs.FifoRanges.{empty-fifo-range, rfr-written-range}
 use Rattle.model.proofs.CoreRanges.{free-wire-range, with-errors-range, with-filters-range, fifo-of-range, with-fifo-range, with-words-range, same-wire-range}
 
@@ -71,17 +72,6 @@ pub banks-written-words : (g : Register) (v : List ℕ) (w : ℕ) → Words v �
 banks-written-words g v w r l = banks-cases Words g v w r (λ i. set-words v i w r l)
 
 -- ---- the core
-
-aborted-wire : (b : Bool) (q : Queue) (m : Mailbox) → aborted b q m .transmitting ≡ q .transmitting
-unfolding aborted
-aborted-wire b q m =
-    pick-cases (λ (p : Queue). p .transmitting ≡ q .transmitting) (b && holds (q .order) m) _ _
-    (λ _. pick-cases (λ (p : Queue). p .transmitting ≡ q .transmitting) (isFrom (q .transmitting) m) _ _ (λ _. refl) (λ _. refl))
-    (λ _. refl)
-
-aborted-all-wire : (q : Queue) (f : MailboxBits) → abortedAll q f .transmitting ≡ q .transmitting
-unfolding abortedAll
-aborted-all-wire q f = aborted-wire (f .m2) _ M2 ∙ (aborted-wire (f .m1) _ M1 ∙ aborted-wire (f .m0) q M0)
 
 not-normal : (m : Mode) → isInitialization m ≡ true → isNormal m ≡ false
 not-normal Sleep h = refl
@@ -155,12 +145,9 @@ written-range Ier c w r l h = ier-core-range c r w
 written-range Esr c w r l h = esr-core-range c r w
 written-range Btr c w r l h = btr-core-range c r w (refused-unless (isInitialization (c .control .mode)) 0 2 refl h .0)
 written-range (Ti m) c w r l h = ti-core-range c r m w l (refused-if (hasRequest c m) 2 0 refl h .0)
-written-range (Tdt m) c w r l h =
-    same-wire-range c r _ (with-mailbox-range (c .transmit) (r .transmit) m _ (tdt-written-range (at (c .transmit .mailboxes) m) (r .transmit .mailboxes m) w)) refl
-written-range (Tdl m) c w r l h =
-    same-wire-range c r _ (with-mailbox-range (c .transmit) (r .transmit) m _ (tdl-written-range (at (c .transmit .mailboxes) m) (r .transmit .mailboxes m) w l)) refl
-written-range (Tdh m) c w r l h =
-    same-wire-range c r _ (with-mailbox-range (c .transmit) (r .transmit) m _ (tdh-written-range (at (c .transmit .mailboxes) m) (r .transmit .mailboxes m) w l)) refl
+written-range (Tdt m) c w r l h = same-wire-range c r _ (tdt-transmit-range (c .transmit) (r .transmit) m w) refl
+written-range (Tdl m) c w r l h = same-wire-range c r _ (tdl-transmit-range (c .transmit) (r .transmit) m w l) refl
+written-range (Tdh m) c w r l h = same-wire-range c r _ (tdh-transmit-range (c .transmit) (r .transmit) m w l) refl
 written-range (Ri f) c w r l h = r
 written-range (Rdt f) c w r l h = r
 written-range (Rdl f) c w r l h = r

@@ -61,9 +61,11 @@ pub record MailboxRange (x : MailboxState) : Type 0 where
   pub completes : x .txok ≡ true → x .rqcp ≡ true
   pub result : one (x .txok) + one (x .alst) + one (x .terr) ≤ 1
 
+-- RQCP is 0 while the mailbox has a request
 pub record TransmitRange (t : Transmit) : Type 0 where
   pub queue : QueueRange (t .queue)
   pub mailboxes : (m : Mailbox) → MailboxRange (at (t .mailboxes) m)
+  pub pending : (m : Mailbox) → holds (t .queue .order) m ≡ true → at (t .mailboxes) m .rqcp ≡ false
 
 -- ---- frames
 
