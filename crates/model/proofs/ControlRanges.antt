@@ -1,12 +1,12 @@
 -- Control words, modes and error counters stay in their ranges.
-use mathlib.Core.Bool.{Bool, true, false, not, _&&_, _||_, and-false}
-use mathlib.Core.Path.{_≡_, refl, sym, ap, _∙_}
-use Prim.Native.Nat.{ℕ, _+_, _*_, _-_, _/_, _%_, _^_, _<_, _≤_}
+use mathlib.Core.Bool.{Bool, true, false, not, _&&_, and-false}
+use mathlib.Core.Path.{_≡_, refl, sym, _∙_}
+use Prim.Native.Nat.{ℕ, _+_, _-_, _%_, _^_, _<_, _≤_}
 use native.Mathlib.Omega.{arith}
 use lib.Dec.{eqb, ltb, leb}
-use borrow.Author.Tests.{eqb-true, ltb-true, ltb-false, leb-true, leb-false, not-true}
+use borrow.Author.Tests.{ltb-false, leb-false, not-true}
 use Rattle.model.specs.Base.{pick, bit, bits}
-use Rattle.model.specs.Control.{inrq, sleep, ttcm, awum, abom, isSleep, isInitialization, isNormal, boff, modeNext, entered, settled, controlReset, masterReset, mcrMasked, ierMasked, btrMasked, mcrWritten, msrWritten, ierWritten, btrWritten, esrWritten, lessOne, counts, recovers, counted, idleMode, idled, idleErrors, ticked, sleepCleared, woken, outcomeErrors, receivedErrors, recPlus, faultErrors, noticed}
+use Rattle.model.specs.Control.{inrq, sleep, ttcm, awum, isSleep, isInitialization, isNormal, boff, modeNext, entered, settled, masterReset, mcrMasked, mcrWritten, msrWritten, ierWritten, btrWritten, esrWritten, counts, recovers, counted, idleMode, idled, idleErrors, ticked, woken, outcomeErrors, receivedErrors, recPlus, faultErrors, noticed}
 use Rattle.model.specs.Reachable.{ControlRange, ErrorRange, RecoveryRange}
 use Rattle.model.specs.declared.Mode.{Mode}
 use Rattle.model.specs.declared.Mode.the-variants.{Sleep, Initialization, Normal}
@@ -54,7 +54,7 @@ module _ (k : Control) (r : ControlRange k) where
   unfolding masterReset
   master-reset-range = record { mcr = refl; ier = r .ier; btr = r .btr; timer = omega arith; stopped = λ _. refl; recovery = omega arith; slaki = λ _. refl }
 
--- ---- modes
+  -- ---- modes
 
   slaki-entered : (m : Mode) (off : Bool) → entered k m off .slaki ≡ true → isSleep m ≡ true
   unfolding entered
@@ -83,7 +83,7 @@ module _ (k : Control) (r : ControlRange k) where
   settled-range true off = entered-range (modeNext (k .mode) (inrq k) (sleep k)) off
   settled-range false off = r
 
--- ---- events
+  -- ---- events
 
   counted-recovery : (e : Errors) → counted k e .recovery < 128
   unfolding counted recovers

@@ -1,10 +1,9 @@
 -- A core with one part changed stays in range where the part does.
-use mathlib.Core.Bool.{Bool, true, false, not, _&&_}
-use mathlib.Core.Path.{_≡_, refl, _∙_, ap}
+use mathlib.Core.Bool.{true, not, _&&_}
+use mathlib.Core.Path.{_≡_, _∙_, ap}
 use Prim.Native.Nat.{ℕ}
 use Rattle.model.specs.Base.{bit}
-use Rattle.model.specs.Queue.{isNobody}
-use Rattle.model.specs.Control.{isNormal, boff}
+use Rattle.model.specs.Control.{isNormal}
 use Rattle.model.specs.Registers.{withControl, withErrors, withTransmit, withFilters, withFifo, fifoOf, isFree}
 use Rattle.model.specs.Reachable.{ControlRange, ErrorRange, RecoveryRange, TransmitRange, WireRange, FifoRange, FilterRange, CoreRange}
 use Rattle.model.specs.declared.Fifo.{Fifo}

@@ -1,25 +1,23 @@
 -- Every bus event that is not refused, and the mode rule after it, keep the core in range.
-use mathlib.Core.Bool.{Bool, true, false, not, _&&_, _||_, false≢true}
+use mathlib.Core.Bool.{Bool, true, false, not, _&&_, _||_}
 use mathlib.Core.List.{List}
-use mathlib.Core.Path.{_≡_, refl, sym, ap, _∙_}
-use Prim.Native.Nat.{ℕ, _+_, _*_, _/_, _%_, _^_, _<_, _≤_}
+use mathlib.Core.Path.{_≡_, refl}
+use Prim.Native.Nat.{ℕ, _*_, _/_, _^_, _<_, _≤_}
 use native.Mathlib.Omega.{arith}
 use lib.Dec.{eqb, ltb, leb}
 use borrow.Author.Tests.{eqb-true, ltb-false, leb-true, not-true}
-use Rattle.model.specs.Base.{pick, bit}
-use Rattle.model.specs.Queue.{isEmpty, isNobody, emptied, freed, offWire}
+use Rattle.model.specs.Queue.{isEmpty, isNobody, offWire}
 use Rattle.model.specs.Mailboxes.{at, tdtMasked, identifiers, firstOf, started, ended, over}
 use Rattle.model.specs.Search.{acceptance}
-use Rattle.model.specs.Reception.{malformed, storedFrame, sentFrame, received, fmiOf}
-use Rattle.model.specs.Control.{inrq, sleep, txfp, rflm, modeNext, nart, lbkm, silm, isSleep, isNormal, boff, idled, idleErrors, ticked, woken, outcomeErrors, receivedErrors, faultErrors, noticed}
+use Rattle.model.specs.Reception.{malformed, storedFrame, sentFrame, fmiOf}
+use Rattle.model.specs.Control.{inrq, sleep, txfp, rflm, modeNext, nart, lbkm, silm, isNormal, boff, idled, idleErrors, ticked, woken, outcomeErrors, receivedErrors, faultErrors, noticed}
 use Rattle.model.specs.Control as control
 use Rattle.model.specs.Registers.{bankCount, isFree, withControl, withErrors, withTransmit}
 use Rattle.model.specs.Step.{mayStart, mayEnd, mayReceive, faultInRange, storedBy, startedBy, loopedBack, endedBy, settled}
-use Rattle.model.specs.Reachable.{carried, Followed, ControlRange, MailboxRange, WireRange, FrameRange, CoreRange}
+use Rattle.model.specs.Reachable.{carried, Followed, MailboxRange, FrameRange, CoreRange}
 use Rattle.model.specs.declared.Mailbox.{Mailbox}
 use Rattle.model.specs.declared.Sender.{Sender}
 use Rattle.model.specs.declared.Sender.the-variants.{Nobody, From}
-use Rattle.model.specs.declared.Fifo.{Fifo}
 use Rattle.model.specs.declared.Fifo.the-variants.{F0, F1}
 use Rattle.model.specs.declared.Queue.{Queue}
 use Rattle.model.specs.declared.Mode.{Mode}
@@ -29,16 +27,13 @@ use Rattle.model.specs.declared.Errors.{Errors}
 use Rattle.model.specs.declared.Transmit.{Transmit}
 use Rattle.model.specs.declared.Frame.{Frame}
 use Rattle.model.specs.declared.MailboxState.{MailboxState}
-use Rattle.model.specs.declared.Filters.{Filters}
-use Rattle.model.specs.declared.FilterNumber.{FilterNumber}
 use Rattle.model.specs.declared.Acceptance.{Acceptance}
-use Rattle.model.specs.declared.Acceptance.the-variants.{Into, Rejected}
 use Rattle.model.specs.declared.Core.{Core}
-use Rattle.model.proofs.Choices.{pick-cases, and-l, and-r, opposed}
+use Rattle.model.proofs.Choices.{pick-cases, and-l, and-r}
 use Rattle.model.proofs.OrderFacts.{first-carried}
 use Rattle.model.proofs.ControlRanges.{settled-range, settled-recovery-range, idled-range, idled-recovery-range, idle-errors-range, ticked-range, woken-range, noticed-range, noticed-recovery-range, outcome-errors-range, received-errors-range, fault-errors-range}
 use Rattle.model.proofs.MailboxRanges.{started-range, ended-range}
-use Rattle.model.proofs.FifoRanges.{well-formed-range, well-formed-length, sent-range, stored-range, received-range, fmi-of-range}
+use Rattle.model.proofs.FifoRanges.{well-formed-range, well-formed-length, sent-range, stored-range, received-range}
 use Rattle.model.proofs.CoreRanges.{free-wire-range, with-errors-range, with-transmit-range, with-words-range}
 
 -- ---- the mode rule
@@ -129,7 +124,7 @@ unfolding faultInRange
 fault-step k n ok = step-one-or-eight n (eqb n 1) refl (and-r (leb 1 k && leb k 6) (eqb n 1 || eqb n 8) ok)
 
 module _ (c : Core) (r : CoreRange c) where
--- ---- idle, bit times, activity
+  -- ---- idle, bit times, activity
 
   pub idle-range : isFree c ≡ true → CoreRange (withErrors c (idled (c .control) (c .errors)) (idleErrors (c .control) (c .errors)))
   idle-range free =
@@ -147,7 +142,7 @@ module _ (c : Core) (r : CoreRange c) where
   unfolding woken
   activity-range = with-words-range c r (woken (c .control)) (woken-range (c .control) (r .control)) refl refl refl refl
 
--- ---- start
+  -- ---- start
 
   start-by : (v : Sender) → carried v (c .transmit .queue .order) ≡ true → Ready c → (silm (c .control) && not (lbkm (c .control))) ≡ false → CoreRange (startedBy v c)
   unfolding startedBy
@@ -160,7 +155,7 @@ module _ (c : Core) (r : CoreRange c) where
   pub start-range : mayStart c ≡ true → CoreRange (startedBy (firstOf (txfp (c .control)) (c .transmit)) c)
   start-range may = start-by _ (first-carried (txfp (c .control)) (identifiers (c .transmit .mailboxes)) (c .transmit .queue .order)) (start-ready c may) (start-heard c may)
 
--- ---- what is stored
+  -- ---- what is stored
 
   stored-by-range : (a : Acceptance) (x : Frame) (time : ℕ) → FrameRange (storedFrame x (fmiOf a) time) → CoreRange (storedBy c a x time)
   unfolding storedBy
@@ -175,7 +170,7 @@ module _ (c : Core) (r : CoreRange c) where
     filters = r .filters;
   }
 
--- ---- a frame, a receive error
+  -- ---- a frame, a receive error
 
   pub receive-range : (a : Acceptance) (x : Frame) → fmiOf a < 4 * bankCount → x .identifier < 2 ^ 32 → x .low < 2 ^ 32 → x .high < 2 ^ 32 → malformed x ≡ false → mayReceive c ≡ true
       → CoreRange (withErrors (storedBy c a x (c .control .timer)) (c .control) (receivedErrors (c .errors)))
@@ -198,7 +193,7 @@ module _ (c : Core) (r : CoreRange c) where
       (noticed-recovery-range (c .control) (c .errors) (r .recovery) d true (y .on))
       (free-wire-range _ (y .free))
 
--- ---- an own end
+  -- ---- an own end
 
   looped-back-fmi : (v : List ℕ) (m : Mailbox) (n : ℕ) → ((w : ℕ) → fmiOf (acceptance bankCount (c .filters) v w) < 4 * bankCount) → fmiOf (loopedBack c v m n) < 4 * bankCount
   unfolding loopedBack

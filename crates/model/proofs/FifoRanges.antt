@@ -1,7 +1,6 @@
 -- Stored frames and FIFOs stay in their ranges.
-use mathlib.Core.Bool.{Bool, true, false, not, _&&_, _||_, false≢true}
-use mathlib.Core.List.{List}
-use mathlib.Core.Path.{_≡_, refl, sym, ap, _∙_}
+use mathlib.Core.Bool.{Bool, true, false, not, _&&_, _||_}
+use mathlib.Core.Path.{_≡_, refl, ap}
 use Prim.Native.Nat.{ℕ, _+_, _*_, _-_, _/_, _%_, _^_, _<_, _≤_}
 use native.Mathlib.Omega.{arith}
 use native.Mathlib.Nat.{mod-le, mod-mod}
@@ -9,11 +8,10 @@ use lib.Dec.{eqb, ltb, leb}
 use borrow.Author.Tests.{eqb-true, eqb-false, ltb-false, not-false}
 use Rattle.model.specs.Base.{pick, bit, bits}
 use Rattle.model.specs.Mailboxes.{sentIdentifier}
-use Rattle.model.specs.Reception.{malformed, dataBytes, bytesKept, storedFrame, sentFrame, noFrame, emptyFifo, pushed, goesInto, fmiOf, received, released, cleared, rfrWritten}
+use Rattle.model.specs.Reception.{malformed, dataBytes, bytesKept, storedFrame, noFrame, emptyFifo, pushed, goesInto, fmiOf, received, released, cleared, rfrWritten}
 use Rattle.model.specs.Registers.{bankCount}
 use Rattle.model.specs.Reachable.{MailboxRange, IdentifierRange, frameOf, FrameRange, FifoRange}
 use Rattle.model.specs.declared.Fifo.{Fifo}
-use Rattle.model.specs.declared.Fifo.the-variants.{F0, F1}
 use Rattle.model.specs.declared.StoredFrame.{StoredFrame}
 use Rattle.model.specs.declared.FifoState.{FifoState}
 use Rattle.model.specs.declared.Frame.{Frame}
@@ -100,7 +98,7 @@ stored-range x fmi time i l h n f t =
     let w : ℕ = x .length + fmi * 256 + time * 65536 in
     let e : bits 8 8 w ≡ fmi = field 256 256 w time fmi (x .length) (omega arith) (omega arith) (omega arith) in
     let d : dataBytes (frameOf (storedFrame x fmi time)) ≡ dataBytes x
-        = data-bytes-stored x fmi time (lowest 16 w (fmi * 16 + time * 4096) (x .length) (omega arith) n) in
+    = data-bytes-stored x fmi time (lowest 16 w (fmi * 16 + time * 4096) (x .length) (omega arith) n) in
     record {
       ri = i;
       rdt = omega arith;

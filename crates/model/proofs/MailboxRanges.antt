@@ -1,12 +1,12 @@
 -- Mailbox words, and mailboxes with their requests, stay in their ranges.
 use mathlib.Core.Bool.{Bool, true, false, not, _&&_, _||_, false≢true, and-false, or-true}
-use mathlib.Core.Path.{_≡_, refl, sym, ap, _∙_}
+use mathlib.Core.Path.{_≡_, refl, _∙_}
 use Prim.Native.Nat.{ℕ, _+_, _*_, _/_, _%_, _^_, _<_, _≤_}
 use native.Mathlib.Omega.{arith}
 use lib.Dec.{eqb}
 use borrow.Author.Tests.{eqb-true}
 use Rattle.model.specs.Base.{pick, bit, one}
-use Rattle.model.specs.Queue.{same, flag, holds, joined, without, isNobody, requested, aborted, abortedAll, sending, offWire}
+use Rattle.model.specs.Queue.{same, flag, holds, joined, without, isNobody, requested, aborted, abortedAll, offWire}
 use Rattle.model.specs.Mailboxes.{at, put, withWords, withFlags, emptyMailbox, tdtMasked, tiWritten, tdtWritten, tdlWritten, tdhWritten, withMailbox, requestedBy, cleared, completed, abortsPending, abrq, tsrWritten, dropped, started, over, outcomeFlags, ended}
 use Rattle.model.specs.Reachable.{QueueRange, MailboxRange, TransmitRange}
 use Rattle.model.specs.declared.Mailbox.{Mailbox}

@@ -1,12 +1,11 @@
 -- A mask applied twice is the mask, and what a mask or a cleared bit leaves of the other bits.
-use mathlib.Core.Bool.{Bool, true, false}
 use mathlib.Core.Path.{_≡_, refl, sym, ap, _∙_}
 use Prim.Native.Nat.{ℕ, zero, _+_, _*_, _-_, _/_, _%_, _^_, _<_, _≤_}
 use native.Mathlib.Omega.{arith}
 use native.Mathlib.Nat.{mul-add-div-right, div-eq-of-lt, mul-add-mod-self-right, mod-eq-of-lt, add-zero}
 use lib.Dec.{eqb}
 use borrow.Author.Tests.{eqb-true}
-use Rattle.model.specs.Base.{pick, bit, bits}
+use Rattle.model.specs.Base.{bit, bits}
 use Rattle.model.specs.Control.{mcrMasked, ierMasked, btrMasked, sleepCleared}
 use Rattle.model.specs.Mailboxes.{tdtMasked}
 use Rattle.model.specs.Registers.{filterMasked}

@@ -1,15 +1,12 @@
 -- Facts on the few request orders of three mailboxes, each by one computed test.
-use mathlib.Core.Bool.{Bool, true, false, not, _&&_, _||_, false≢true}
+use mathlib.Core.Bool.{Bool, true, false, not, _&&_}
 use mathlib.Core.Path.{_≡_, refl, ap, subst}
 use borrow.Author.Tests.{not-true}
-use Rattle.model.specs.Base.{pick}
-use Rattle.model.specs.Queue.{same, holds, joined, without, oldest, isFrom}
+use Rattle.model.specs.Queue.{same, holds, joined, without, oldest}
 use Rattle.model.specs.Mailboxes.{before, lowest, sooner, first}
 use Rattle.model.specs.Reachable.{distinct, carried}
 use Rattle.model.specs.declared.Mailbox.{Mailbox}
 use Rattle.model.specs.declared.Mailbox.the-variants.{M0, M1, M2}
-use Rattle.model.specs.declared.Sender.{Sender}
-use Rattle.model.specs.declared.Sender.the-variants.{Nobody, From}
 use Rattle.model.specs.declared.RequestOrder.{RequestOrder}
 use Rattle.model.specs.declared.RequestOrder.the-variants.{Empty, One, Two, Three}
 use Rattle.model.specs.declared.Identifiers.{Identifiers}

@@ -1,10 +1,8 @@
 -- Requests and mailboxes stay in their ranges.
-use mathlib.Core.Bool.{Bool, true, false, not, _&&_, _||_, false≢true}
+use mathlib.Core.Bool.{Bool, true, false, not, _&&_, false≢true}
 use mathlib.Core.Path.{_≡_, refl, sym, ap, _∙_}
-use Prim.Native.Nat.{ℕ, _+_, _*_, _/_, _%_, _^_, _<_}
-use native.Mathlib.Omega.{arith}
-use Rattle.model.specs.Base.{pick, bit}
-use Rattle.model.specs.Queue.{same, flag, flagged, holds, joined, without, isFrom, isNobody, noRequests, requested, emptied, remembered, aborted, abortedAll, sending, freed, offWire}
+use Rattle.model.specs.Base.{pick}
+use Rattle.model.specs.Queue.{same, flag, flagged, holds, joined, without, isFrom, isNobody, noRequests, requested, emptied, remembered, aborted, abortedAll, sending, offWire}
 use Rattle.model.specs.Mailboxes.{abortsPending}
 use Rattle.model.specs.Reachable.{distinct, carried, QueueRange}
 use Rattle.model.specs.declared.Mailbox.{Mailbox}

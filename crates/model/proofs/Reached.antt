@@ -1,16 +1,16 @@
 -- Every state that steps reach from hardware reset is in range.
-use mathlib.Core.Bool.{Bool, true, false, false≢true}
+use mathlib.Core.Bool.{Bool, true, false≢true}
 use mathlib.Core.List.{List, [], _∷_}
 use mathlib.Core.Path.{_≡_, refl, _∙_}
 use Prim.Native.Nat.{ℕ, zero, suc, _*_, _<_}
 use native.Mathlib.Omega.{arith}
-use lib.Dec.{eqb, ltb, leb}
+use lib.Dec.{eqb, ltb}
 use lib.ListN.{length, replicate}
 use Rattle.model.specs.Search.{acceptance}
 use Rattle.model.specs.Reception.{malformed, fmiOf}
 use Rattle.model.specs.Control.{modeNext, controlReset}
-use Rattle.model.specs.Registers.{bankCount, isFree, registerAt, isAbsent, reset}
-use Rattle.model.specs.Step.{mayStart, mayEnd, mayReceive, faultInRange, refusal, applied, banksApplied, settled, coreAfter, banksAfter, answered, step}
+use Rattle.model.specs.Registers.{bankCount, isFree, registerAt, reset}
+use Rattle.model.specs.Step.{mayStart, mayEnd, mayReceive, faultInRange, refusal, applied, banksApplied, coreAfter, banksAfter, answered, step}
 use Rattle.model.specs.Requests.{after}
 use Rattle.model.specs.Mailboxes.{at}
 use Rattle.model.specs.Reachable.{MailboxRange, Words, CoreRange, Followed, InRange, StepRange, StepsRange}

@@ -1,22 +1,17 @@
 -- Every register write that is not refused keeps the core and the banks' words in range.
-use mathlib.Core.Bool.{Bool, true, false, not, _&&_, _||_, false≢true, true≢false}
+use mathlib.Core.Bool.{Bool, true, false, false≢true}
 use mathlib.Core.List.{List, [], _∷_}
-use mathlib.Core.Path.{_≡_, refl, sym, ap, _∙_}
+use mathlib.Core.Path.{_≡_, refl}
 use Prim.Native.Nat.{ℕ, zero, suc, _+_, _*_, _^_, _<_}
-use native.Mathlib.Omega.{arith}
 use lib.Dec.{eqb}
 use lib.ListN.{length, set, length-set}
-use Rattle.model.specs.Base.{pick, bit}
-use Rattle.model.specs.Queue.{holds, isFrom, aborted, abortedAll}
-use Rattle.model.specs.Mailboxes.{at, requestedBy, tdtWritten, tdlWritten, tdhWritten, tsrWritten, abrq, dropped}
+use Rattle.model.specs.Base.{bit}
+use Rattle.model.specs.Mailboxes.{requestedBy, tsrWritten, abrq}
 use Rattle.model.specs.Control.{isInitialization, isNormal, masterReset, mcrWritten, msrWritten, ierWritten, btrWritten, esrWritten}
-use Rattle.model.specs.Reception.{emptyFifo, rfrWritten}
-use Rattle.model.specs.Registers.{bankCount, withFilterWords, filterMasked, fifoOf, hasRequest, isFree, coreReset, written, banksWritten, writeRefusal}
-use Rattle.model.specs.Reachable.{RecoveryRange, FilterRange, Words, CoreRange}
+use Rattle.model.specs.Reception.{rfrWritten}
+use Rattle.model.specs.Registers.{fifoOf, hasRequest, isFree, coreReset, written, banksWritten, writeRefusal}
+use Rattle.model.specs.Reachable.{Words, CoreRange}
 use Rattle.model.specs.declared.Mailbox.{Mailbox}
-use Rattle.model.specs.declared.Mailbox.the-variants.{M0, M1, M2}
-use Rattle.model.specs.declared.Sender.{Sender}
-use Rattle.model.specs.declared.MailboxBits.{MailboxBits}
 use Rattle.model.specs.declared.Queue.{Queue}
 use Rattle.model.specs.declared.Mode.{Mode}
 use Rattle.model.specs.declared.Mode.the-variants.{Sleep, Initialization, Normal}

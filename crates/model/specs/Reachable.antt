@@ -1,13 +1,12 @@
 -- The states that steps reach from hardware reset: what each field is then.
 -- Each word holds only the bits that its mask lets through.
-use mathlib.Core.Bool.{Bool, true, false, not, _&&_, _||_}
+use mathlib.Core.Bool.{Bool, true, false, not, _&&_}
 use mathlib.Core.List.{List, [], _∷_}
 use mathlib.Core.Path.{_≡_}
 use Prim.Native.Nat.{ℕ, _+_, _*_, _-_, _/_, _%_, _^_, _<_, _≤_}
-use lib.Dec.{eqb, ltb, leb}
 use lib.ListN.{length}
 use Rattle.model.specs.Base.{bit, bits, one}
-use Rattle.model.specs.Queue.{same, flag, holds, isFrom, isNobody}
+use Rattle.model.specs.Queue.{same, flag, holds, isFrom}
 use Rattle.model.specs.Mailboxes.{at, tdtMasked}
 use Rattle.model.specs.Reception.{dataBytes, bytesKept, noFrame}
 use Rattle.model.specs.Control.{inrq, sleep, ttcm, lbkm, silm, modeNext, isSleep, isNormal, boff, mcrMasked, ierMasked, btrMasked}
