@@ -1,5 +1,5 @@
 -- Control words, modes and error counters stay in their ranges.
-use mathlib.Core.Bool.{Bool, true, false, not, _&&_, and-false}
+use mathlib.Core.Bool.{Bool, true, false, not, _&&_, _||_, and-false, or-true, false≢true}
 use mathlib.Core.Path.{_≡_, refl, sym, _∙_}
 use Prim.Native.Nat.{ℕ, _+_, _-_, _%_, _^_, _<_, _≤_}
 use native.Mathlib.Omega.{arith}
@@ -200,12 +200,33 @@ idle-not-init false Sleep = refl
 idle-not-init false Initialization = refl
 idle-not-init false Normal = refl
 
+-- what is in Initialization after it was so before
+idle-was-init : (b : Bool) (m : Mode) → isInitialization (pick b Normal m) ≡ true → isInitialization m ≡ true
+idle-was-init true m h = absurd (false≢true h)
+idle-was-init false m h = h
+
+pub not-normal : (m : Mode) → isInitialization m ≡ true → isNormal m ≡ false
+not-normal Sleep h = refl
+not-normal Initialization h = refl
+not-normal Normal h = absurd (false≢true h)
+
 module _ (k : Control) (e : Errors) (r : RecoveryRange k e) where
+  -- b: it was in Initialization before
+  entered-fresh : (b : Bool) → isInitialization (k .mode) ≡ b → pick (not b) 0 (k .recovery) ≡ 0
+  entered-fresh true h = r .fresh h
+  entered-fresh false h = refl
+
+  entered-begins : (b : Bool) → isInitialization (k .mode) ≡ b → boff e ≡ true → (k .initialized || (not b && boff e)) ≡ true
+  entered-begins true h off = rw (r .begins h off)
+  entered-begins false h off = rw off (or-true (k .initialized))
+
   entered-recovery-range : (m : Mode) → RecoveryRange (entered k m (boff e)) e
   unfolding entered
   entered-recovery-range m = record {
     count = λ on. pick-cases (λ (n : ℕ). n ≡ 0) (isInitialization m && not (isInitialization (k .mode))) _ _ (λ _. refl) (λ _. r .count on);
     initialized = λ on. simp (r .initialized on, on, and-false);
+    fresh = λ h. rw h (entered-fresh (isInitialization (k .mode)) refl);
+    begins = λ h off. rw h (entered-begins (isInitialization (k .mode)) refl off);
   }
 
   pub settled-recovery-range : (free : Bool) → RecoveryRange (settled k free (boff e)) e
@@ -213,23 +234,45 @@ module _ (k : Control) (e : Errors) (r : RecoveryRange k e) where
   settled-recovery-range true = entered-recovery-range (modeNext (k .mode) (inrq k) (sleep k))
   settled-recovery-range false = r
 
-  pub noticed-recovery-range : (d : Errors) (coded : Bool) → boff e ≡ false → RecoveryRange (noticed k e d coded) d
+  pub noticed-recovery-range : (d : Errors) (coded : Bool) → isNormal (k .mode) ≡ true → boff e ≡ false → RecoveryRange (noticed k e d coded) d
   unfolding noticed
-  noticed-recovery-range d coded on = record { count = λ off. rw off (r .count on); initialized = λ off. rw (r .initialized on) }
+  noticed-recovery-range d coded normal on = record {
+    count = λ off. rw off (r .count on);
+    initialized = λ off. rw (r .initialized on);
+    fresh = λ h. opposed normal (not-normal (k .mode) h);
+    begins = λ h _. opposed normal (not-normal (k .mode) h);
+  }
 
-  -- the count and `initialized`, with the test whether this idle ends bus-off
-  idled-count : (b : Bool) → recovers k e ≡ b → ltb 255 (pick b 0 (e .tec)) ≡ false → pick b 0 (pick (counts k e) ((k .recovery + 1) % 2 ^ 8) (k .recovery)) ≡ 0
+  -- ---- an idle event, with the test whether it ends bus-off
+
+  idled-count : (b : Bool) → ltb 255 (pick b 0 (e .tec)) ≡ false → pick b 0 (pick (counts k e) ((k .recovery + 1) % 2 ^ 8) (k .recovery)) ≡ 0
   unfolding counts
-  idled-count true h on = refl
-  idled-count false h on = rw on (r .count on)
+  idled-count true on = refl
+  idled-count false on = rw on (r .count on)
 
   idled-initialized : (b : Bool) → ltb 255 (pick b 0 (e .tec)) ≡ false → (k .initialized && not b) ≡ false
   idled-initialized true on = and-false (k .initialized)
   idled-initialized false on = rw (r .initialized on)
 
+  -- it does not count in Initialization
+  not-counted : isInitialization (k .mode) ≡ true → counts k e ≡ false
+  unfolding counts
+  not-counted h = simp (not-normal (k .mode) h, and-false)
+
+  not-recovered : isInitialization (k .mode) ≡ true → recovers k e ≡ false
+  unfolding recovers
+  not-recovered h = rw (not-counted h)
+
   pub idled-recovery-range : RecoveryRange (idled k e) (idleErrors k e)
   unfolding idled entered counted idleErrors idleMode
-  idled-recovery-range = record {
-    count = λ on. rw (idle-not-init (eqb (k .mcr % 4) 0) (k .mode)) (idled-count (recovers k e) refl on);
-    initialized = λ on. rw (idle-not-init (eqb (k .mcr % 4) 0) (k .mode), idled-initialized (recovers k e) on);
-  }
+  idled-recovery-range =
+      let b : Bool = eqb (k .mcr % 4) 0 in
+      record {
+        count = λ on. rw (idle-not-init b (k .mode)) (idled-count (recovers k e) on);
+        initialized = λ on. rw (idle-not-init b (k .mode), idled-initialized (recovers k e) on);
+        fresh = λ h. let i : isInitialization (k .mode) ≡ true = idle-was-init b (k .mode) h in
+            rw (idle-not-init b (k .mode), not-recovered i, not-counted i) (r .fresh i);
+        begins = λ h off. let i : isInitialization (k .mode) ≡ true = idle-was-init b (k .mode) h in
+            let o : boff e ≡ true = rw (not-recovered i) at off in
+            rw (not-recovered i, r .begins i o);
+      }

@@ -1,9 +1,9 @@
 -- A core with one part changed stays in range where the part does.
 use mathlib.Core.Bool.{true, not, _&&_}
-use mathlib.Core.Path.{_≡_, _∙_, ap}
+use mathlib.Core.Path.{_≡_, sym, _∙_, ap}
 use Prim.Native.Nat.{ℕ}
 use Rattle.model.specs.Base.{bit}
-use Rattle.model.specs.Control.{isNormal}
+use Rattle.model.specs.Control.{isInitialization, isNormal}
 use Rattle.model.specs.Registers.{withControl, withErrors, withTransmit, withFilters, withFifo, fifoOf, isFree}
 use Rattle.model.specs.Reachable.{ControlRange, ErrorRange, RecoveryRange, TransmitRange, WireRange, FifoRange, FilterRange, CoreRange}
 use Rattle.model.specs.declared.Fifo.{Fifo}
@@ -43,7 +43,12 @@ module _ (c : Core) (r : CoreRange c) where
       → CoreRange (withControl c k)
   with-words-range k kr b m n i =
       with-errors-range k (c .errors) kr (r .errors)
-      (record { count = λ on. n ∙ r .recovery .count on; initialized = λ on. i ∙ r .recovery .initialized on })
+      (record {
+        count = λ on. n ∙ r .recovery .count on;
+        initialized = λ on. i ∙ r .recovery .initialized on;
+        fresh = λ h. n ∙ r .recovery .fresh (sym (ap isInitialization m) ∙ h);
+        begins = λ h off. i ∙ r .recovery .begins (sym (ap isInitialization m) ∙ h) off;
+      })
       (record {
         normal = λ busy. ap isNormal m ∙ r .wire .normal busy;
         on = r .wire .on;

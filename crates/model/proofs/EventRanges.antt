@@ -179,7 +179,7 @@ module _ (c : Core) (r : CoreRange c) where
       with-errors-range (storedBy c a x (c .control .timer))
       (stored-by-range a x (c .control .timer) (stored-range x (fmiOf a) (c .control .timer) (well-formed-range x ok i) l h (well-formed-length x ok) f (r .control .timer)))
       (c .control) (receivedErrors (c .errors)) (r .control) (received-errors-range (c .errors) (r .errors))
-      (record { count = r .recovery .count; initialized = r .recovery .initialized })
+      (record { count = r .recovery .count; initialized = r .recovery .initialized; fresh = r .recovery .fresh; begins = r .recovery .begins })
       (free-wire-range _ (receive-ready c may .free))
 
   pub receive-error-range : (k n : ℕ) → faultInRange k n ≡ true → mayReceive c ≡ true
@@ -190,7 +190,7 @@ module _ (c : Core) (r : CoreRange c) where
       with-errors-range c r (noticed (c .control) (c .errors) d true) d
       (noticed-range (c .control) (r .control) (c .errors) d true)
       (fault-errors-range (c .errors) (r .errors) k n (fault-code k n ok) (fault-step k n ok))
-      (noticed-recovery-range (c .control) (c .errors) (r .recovery) d true (y .on))
+      (noticed-recovery-range (c .control) (c .errors) (r .recovery) d true (y .normal) (y .on))
       (free-wire-range _ (y .free))
 
   -- ---- an own end
@@ -227,7 +227,7 @@ module _ (c : Core) (r : CoreRange c) where
       (noticed (c .control) (c .errors) d coded) d
       (noticed-range (c .control) (r .control) (c .errors) d coded)
       (outcome-errors-range (c .errors) (r .errors) n l (r .wire .on busy))
-      (noticed-recovery-range (c .control) (c .errors) (r .recovery) d coded (r .wire .on busy))
+      (noticed-recovery-range (c .control) (c .errors) (r .recovery) d coded (r .wire .normal busy) (r .wire .on busy))
       (free-wire-range _ (ended-free (c .transmit) m n (nart (c .control))))
 
   pub end-range : (v : List ℕ) (n : ℕ) → ((w : ℕ) → fmiOf (acceptance bankCount (c .filters) v w) < 4 * bankCount) → ltb 7 n ≡ false → mayEnd c n ≡ true

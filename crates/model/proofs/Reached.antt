@@ -39,7 +39,7 @@ unfolding reset controlReset
 reset-core-range = record {
   control = record { mcr = refl; ier = refl; btr = refl; timer = omega arith; stopped = λ _. refl; recovery = omega arith; slaki = λ _. refl };
   errors = record { tec = omega arith; rec = omega arith; lec = omega arith };
-  recovery = record { count = λ _. refl; initialized = λ _. refl };
+  recovery = record { count = λ _. refl; initialized = λ _. refl; fresh = λ _. refl; begins = λ h _. absurd (false≢true h) };
   wire = free-wire-range (reset .core) refl;
   transmit = record { queue = no-requests-range; mailboxes = empty; pending = λ m h. absurd (false≢true h) };
   fifo0 = empty-fifo-range;

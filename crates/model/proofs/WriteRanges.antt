@@ -20,7 +20,7 @@ use Rattle.model.specs.declared.Register.{Register}
 use Rattle.model.specs.declared.Register.the-variants.{Mcr, Msr, Tsr, Rfr, Ier, Esr, Btr, Ti, Tdt, Tdl, Tdh, Ri, Rdt, Rdl, Rdh, Fmr, Fm1r, Fs1r, Ffa1r, Fa1r, R1, R2, Absent}
 use Rattle.model.proofs.Choices.{pick-cases, opposed, refused-if, refused-unless}
 use Rattle.model.proofs.Masks.{filter-masked}
-use Rattle.model.proofs.ControlRanges.{mcr-written-range, msr-written-range, ier-written-range, btr-written-range, master-reset-range, esr-written-range}
+use Rattle.model.proofs.ControlRanges.{not-normal, mcr-written-range, msr-written-range, ier-written-range, btr-written-range, master-reset-range, esr-written-range}
 use Rattle.model.proofs.MailboxRanges.{dropped-range, tsr-written-range, tdt-transmit-range, tdl-transmit-range, tdh-transmit-range, requested-by-range}
 use Rattle.model.proofs.QueueRanges.{aborted-all-wire}
 use Rattle.model.proofs.FifoRanges.{empty-fifo-range, rfr-written-range}
@@ -68,18 +68,13 @@ banks-written-words g v w r l = banks-cases Words g v w r (λ i. set-words v i w
 
 -- ---- the core
 
-not-normal : (m : Mode) → isInitialization m ≡ true → isNormal m ≡ false
-not-normal Sleep h = refl
-not-normal Initialization h = refl
-not-normal Normal h = absurd (false≢true h)
-
 module _ (c : Core) (r : CoreRange c) where
   core-reset-range : CoreRange (coreReset c)
   unfolding coreReset masterReset
   core-reset-range = record {
     control = master-reset-range (c .control) (r .control);
     errors = r .errors;
-    recovery = record { count = λ _. refl; initialized = r .recovery .initialized };
+    recovery = record { count = λ _. refl; initialized = r .recovery .initialized; fresh = λ _. refl; begins = λ h _. absurd (false≢true h) };
     wire = free-wire-range (coreReset c) refl;
     transmit = dropped-range (c .transmit) (r .transmit);
     fifo0 = empty-fifo-range;
@@ -110,14 +105,14 @@ module _ (c : Core) (r : CoreRange c) where
   unfolding written btrWritten
   btr-core-range w h =
       with-errors-range c r (btrWritten (c .control) w) (c .errors) (btr-written-range (c .control) (r .control) w) (r .errors)
-      (record { count = r .recovery .count; initialized = r .recovery .initialized })
+      (record { count = r .recovery .count; initialized = r .recovery .initialized; fresh = r .recovery .fresh; begins = r .recovery .begins })
       (free-wire-range _ (initialization-free (isFree c) refl h))
 
   esr-core-range : (w : ℕ) → CoreRange (written Esr c w)
   unfolding written esrWritten
   esr-core-range w =
       with-errors-range c r (c .control) (esrWritten (c .errors) w) (r .control) (esr-written-range (c .errors) (r .errors) w)
-      (record { count = r .recovery .count; initialized = r .recovery .initialized })
+      (record { count = r .recovery .count; initialized = r .recovery .initialized; fresh = r .recovery .fresh; begins = r .recovery .begins })
       (record { normal = r .wire .normal; on = r .wire .on; heard = r .wire .heard })
 
   tsr-core-range : (w : ℕ) → CoreRange (written Tsr c w)

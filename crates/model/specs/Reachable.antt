@@ -9,7 +9,7 @@ use Rattle.model.specs.Base.{bit, bits, one}
 use Rattle.model.specs.Queue.{same, flag, holds, isFrom}
 use Rattle.model.specs.Mailboxes.{at, tdtMasked}
 use Rattle.model.specs.Reception.{dataBytes, bytesKept, noFrame}
-use Rattle.model.specs.Control.{inrq, sleep, ttcm, lbkm, silm, modeNext, isSleep, isNormal, boff, mcrMasked, ierMasked, btrMasked}
+use Rattle.model.specs.Control.{inrq, sleep, ttcm, lbkm, silm, modeNext, isSleep, isInitialization, isNormal, boff, mcrMasked, ierMasked, btrMasked}
 use Rattle.model.specs.Registers.{bankCount, filterMasked, isFree}
 use Rattle.model.specs.declared.Mailbox.{Mailbox}
 use Rattle.model.specs.declared.Sender.{Sender}
@@ -127,10 +127,12 @@ pub record ErrorRange (e : Errors) : Type 0 where
   pub rec : e .rec ≤ 255
   pub lec : e .lec ≤ 7
 
--- out of bus-off nothing counts towards recovery
+-- out of bus-off nothing counts towards recovery; in Initialization the count is 0, and the recovery from bus-off may begin
 pub record RecoveryRange (k : Control) (e : Errors) : Type 0 where
   pub count : boff e ≡ false → k .recovery ≡ 0
   pub initialized : boff e ≡ false → k .initialized ≡ false
+  pub fresh : isInitialization (k .mode) ≡ true → k .recovery ≡ 0
+  pub begins : isInitialization (k .mode) ≡ true → boff e ≡ true → k .initialized ≡ true
 
 -- with an own frame on the wire: Normal, not bus-off, and not SILM=1 with LBKM=0
 pub record WireRange (c : Core) : Type 0 where
