@@ -10,11 +10,11 @@ use Rattle.model.specs.Queue.{isEmpty, isNobody, offWire}
 use Rattle.model.specs.Mailboxes.{at, tdtMasked, identifiers, firstOf, started, ended, over}
 use Rattle.model.specs.Search.{acceptance}
 use Rattle.model.specs.Reception.{malformed, storedFrame, sentFrame, fmiOf}
-use Rattle.model.specs.Control.{inrq, sleep, txfp, rflm, modeNext, nart, lbkm, silm, isNormal, boff, idled, idleErrors, ticked, woken, outcomeErrors, receivedErrors, faultErrors, noticed}
+use Rattle.model.specs.Control.{inrq, sleep, txfp, rflm, modeNext, nart, lbkm, isNormal, boff, idled, idleErrors, ticked, woken, outcomeErrors, receivedErrors, faultErrors, noticed}
 use Rattle.model.specs.Control as control
 use Rattle.model.specs.Registers.{bankCount, isFree, withControl, withErrors, withTransmit}
 use Rattle.model.specs.Step.{mayStart, mayEnd, mayReceive, faultInRange, storedBy, startedBy, loopedBack, endedBy, settled}
-use Rattle.model.specs.Reachable.{carried, Followed, MailboxRange, FrameRange, CoreRange}
+use Rattle.model.specs.Reachable.{carried, silent, Followed, MailboxRange, FrameRange, CoreRange}
 use Rattle.model.specs.declared.Mailbox.{Mailbox}
 use Rattle.model.specs.declared.Sender.{Sender}
 use Rattle.model.specs.declared.Sender.the-variants.{Nobody, From}
@@ -93,13 +93,13 @@ ready c x y may =
 
 start-ready : (c : Core) → mayStart c ≡ true → Ready c
 unfolding mayStart
-start-ready c may = ready c (not (isEmpty (c .transmit .queue .order))) (not (silm (c .control) && not (lbkm (c .control)))) may
+start-ready c may = ready c (not (isEmpty (c .transmit .queue .order))) (not (silent (c .control))) may
 
-start-heard : (c : Core) → mayStart c ≡ true → (silm (c .control) && not (lbkm (c .control))) ≡ false
+start-heard : (c : Core) → mayStart c ≡ true → silent (c .control) ≡ false
 unfolding mayStart
 start-heard c may =
-    not-true (silm (c .control) && not (lbkm (c .control)))
-    (and-r (isNormal (c .control .mode) && not (boff (c .errors)) && isFree c && not (isEmpty (c .transmit .queue .order))) (not (silm (c .control) && not (lbkm (c .control)))) may)
+    not-true (silent (c .control))
+    (and-r (isNormal (c .control .mode) && not (boff (c .errors)) && isFree c && not (isEmpty (c .transmit .queue .order))) (not (silent (c .control))) may)
 
 receive-ready : (c : Core) → mayReceive c ≡ true → Ready c
 unfolding mayReceive
@@ -144,7 +144,7 @@ module _ (c : Core) (r : CoreRange c) where
 
   -- ---- start
 
-  start-by : (v : Sender) → carried v (c .transmit .queue .order) ≡ true → Ready c → (silm (c .control) && not (lbkm (c .control))) ≡ false → CoreRange (startedBy v c)
+  start-by : (v : Sender) → carried v (c .transmit .queue .order) ≡ true → Ready c → silent (c .control) ≡ false → CoreRange (startedBy v c)
   unfolding startedBy
   start-by Nobody h y a = r
   start-by (From m) h y a =

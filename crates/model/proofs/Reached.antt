@@ -62,6 +62,32 @@ reset-in-range = record { core = reset-core-range; mode = λ _. refl; bankWords 
 
 -- ---- one step
 
+banks-length : (v : List ℕ) (s : Step) → length v ≡ 2 * bankCount → length (banksApplied v s) ≡ 2 * bankCount
+unfolding banksApplied reset
+banks-length v Reset n = refl
+banks-length v (Read o) n = n
+banks-length v (Write o w) n = banks-written-length (registerAt o) v w ∙ n
+banks-length v Idle n = n
+banks-length v (BitTimes t) n = n
+banks-length v Activity n = n
+banks-length v Start n = n
+banks-length v (Outcome r) n = n
+banks-length v (Receive x) n = n
+banks-length v (ReceiveError e t) n = n
+
+banks-words : (v : List ℕ) (s : Step) → Words v → StepRange s → Words (banksApplied v s)
+unfolding banksApplied
+banks-words v Reset r l = reset-in-range .banks
+banks-words v (Read o) r l = r
+banks-words v (Write o w) r l = banks-written-words (registerAt o) v w r l
+banks-words v Idle r l = r
+banks-words v (BitTimes t) r l = r
+banks-words v Activity r l = r
+banks-words v Start r l = r
+banks-words v (Outcome n) r l = r
+banks-words v (Receive x) r l = r
+banks-words v (ReceiveError e t) r l = r
+
 module _ (fmi-small : (n : ℕ) (g : Filters) (v : List ℕ) (w : ℕ) (f : Fifo) (x : FilterNumber) → acceptance n g v w ≡ Into f x → x .0 < 4 * n) where
   fmi-range : (g : Filters) (v : List ℕ) (w : ℕ) → fmiOf (acceptance bankCount g v w) < 4 * bankCount
   fmi-range g v w = fmi-of-range (acceptance bankCount g v w) (fmi-small bankCount g v w)
@@ -85,32 +111,6 @@ module _ (fmi-small : (n : ℕ) (g : Filters) (v : List ℕ) (w : ℕ) (f : Fifo
       let k = refused-unless (faultInRange e n) _ 5 refl h in
       receive-error-range c r e n (k .0) (refused-unless (mayReceive c) 0 4 refl (k .1) .0)
 
-  banks-length : (v : List ℕ) (s : Step) → length v ≡ 2 * bankCount → length (banksApplied v s) ≡ 2 * bankCount
-  unfolding banksApplied reset
-  banks-length v Reset n = refl
-  banks-length v (Read o) n = n
-  banks-length v (Write o w) n = banks-written-length (registerAt o) v w ∙ n
-  banks-length v Idle n = n
-  banks-length v (BitTimes t) n = n
-  banks-length v Activity n = n
-  banks-length v Start n = n
-  banks-length v (Outcome r) n = n
-  banks-length v (Receive x) n = n
-  banks-length v (ReceiveError e t) n = n
-
-  banks-words : (v : List ℕ) (s : Step) → Words v → StepRange s → Words (banksApplied v s)
-  unfolding banksApplied
-  banks-words v Reset r l = reset-in-range .banks
-  banks-words v (Read o) r l = r
-  banks-words v (Write o w) r l = banks-written-words (registerAt o) v w r l
-  banks-words v Idle r l = r
-  banks-words v (BitTimes t) r l = r
-  banks-words v Activity r l = r
-  banks-words v Start r l = r
-  banks-words v (Outcome n) r l = r
-  banks-words v (Receive x) r l = r
-  banks-words v (ReceiveError e t) r l = r
-
   pub step-in-range : (z : Controller) (s : Step) → InRange z → StepRange s → InRange (step z s .controller)
   unfolding step answered coreAfter banksAfter
   step-in-range z s r l =
@@ -124,10 +124,10 @@ module _ (fmi-small : (n : ℕ) (g : Filters) (v : List ℕ) (w : ℕ) (f : Fifo
 
   -- ---- any list of steps
 
-  after-in-range : (l : List Step) (z : Controller) → InRange z → StepsRange l → InRange (after z l)
+  pub after-in-range : (z : Controller) (l : List Step) → InRange z → StepsRange l → InRange (after z l)
   unfolding after
-  after-in-range [] z r h = r
-  after-in-range (s ∷ l) z r h = after-in-range l (step z s .controller) (step-in-range z s r (h .0)) (h .1)
+  after-in-range z [] r h = r
+  after-in-range z (s ∷ l) r h = after-in-range (step z s .controller) l (step-in-range z s r (h .0)) (h .1)
 
   pub reachable : (l : List Step) → StepsRange l → InRange (after reset l)
-  reachable l h = after-in-range l reset reset-in-range h
+  reachable l h = after-in-range reset l reset-in-range h

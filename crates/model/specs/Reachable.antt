@@ -50,7 +50,7 @@ pub record QueueRange (q : Queue) : Type 0 where
   -- an abort is remembered only of the mailbox on the wire
   pub aborts : (m : Mailbox) → flag (q .aborts) m ≡ true → isFrom (q .transmitting) m ≡ true
 
--- TXRQ is not kept in `ti`; TXOK comes with RQCP, and with neither ALST nor TERR, which exclude each other
+-- TXRQ is not kept in `ti`; TXOK comes with RQCP; at most one of TXOK, ALST and TERR is set
 pub record MailboxRange (x : MailboxState) : Type 0 where
   pub ti : x .ti < 2 ^ 32
   pub even : x .ti / 2 * 2 ≡ x .ti
@@ -134,11 +134,15 @@ pub record RecoveryRange (k : Control) (e : Errors) : Type 0 where
   pub fresh : isInitialization (k .mode) ≡ true → k .recovery ≡ 0
   pub begins : isInitialization (k .mode) ≡ true → boff e ≡ true → k .initialized ≡ true
 
--- with an own frame on the wire: Normal, not bus-off, and not SILM=1 with LBKM=0
+-- SILM=1 with LBKM=0: nothing is sent
+abbrev pub silent : Control → Bool
+silent k = silm k && not (lbkm k)
+
+-- with an own frame on the wire: Normal, not bus-off and not silent
 pub record WireRange (c : Core) : Type 0 where
   pub normal : isFree c ≡ false → isNormal (c .control .mode) ≡ true
   pub on : isFree c ≡ false → boff (c .errors) ≡ false
-  pub heard : isFree c ≡ false → (silm (c .control) && not (lbkm (c .control))) ≡ false
+  pub heard : isFree c ≡ false → silent (c .control) ≡ false
 
 -- ---- the controller
 
