@@ -12,7 +12,7 @@ use Rattle.model.specs.declared.Mode.{Mode}
 use Rattle.model.specs.declared.Mode.the-variants.{Sleep, Initialization, Normal}
 use Rattle.model.specs.declared.Control.{Control}
 use Rattle.model.specs.declared.Errors.{Errors}
-use Rattle.model.proofs.Choices.{pick-cases, and-l, and-r, opposed}
+use Rattle.model.proofs.Tests.{pick-cases, and-l, and-r, opposed}
 use Rattle.model.proofs.Masks.{mcr-masked, ier-masked, btr-masked, ttcm-masked, sleep-cleared, ttcm-kept}
 
 -- ---- register writes

@@ -14,7 +14,7 @@ use Rattle.model.specs.declared.Transmit.{Transmit}
 use Rattle.model.specs.declared.FifoState.{FifoState}
 use Rattle.model.specs.declared.Filters.{Filters}
 use Rattle.model.specs.declared.Core.{Core}
-use Rattle.model.proofs.Choices.{opposed}
+use Rattle.model.proofs.Tests.{opposed}
 
 -- with a free wire nothing is asked of mode and errors
 pub free-wire-range : (c : Core) → isFree c ≡ true → WireRange c

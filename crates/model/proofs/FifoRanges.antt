@@ -19,7 +19,7 @@ use Rattle.model.specs.declared.FilterNumber.{FilterNumber}
 use Rattle.model.specs.declared.MailboxState.{MailboxState}
 use Rattle.model.specs.declared.Acceptance.{Acceptance}
 use Rattle.model.specs.declared.Acceptance.the-variants.{Into, Rejected}
-use Rattle.model.proofs.Choices.{pick-cases, or-l, or-r, opposed}
+use Rattle.model.proofs.Tests.{pick-cases, or-l, or-r, opposed}
 use Rattle.model.proofs.Masks.{field, lowest}
 
 -- ---- identifiers

@@ -1,4 +1,4 @@
-pub mod Choices
+pub mod Tests
 pub mod Masks
 pub mod OrderFacts
 pub mod ControlRanges

@@ -17,7 +17,7 @@ use Rattle.model.specs.declared.Queue.{Queue}
 use Rattle.model.specs.declared.MailboxState.{MailboxState}
 use Rattle.model.specs.declared.Mailboxes.{Mailboxes}
 use Rattle.model.specs.declared.Transmit.{Transmit}
-use Rattle.model.proofs.Choices.{pick-cases, and-l, and-r, or-r, opposed}
+use Rattle.model.proofs.Tests.{pick-cases, and-l, and-r, or-r, opposed}
 use Rattle.model.proofs.OrderFacts.{gone-without, held-before-without, held-before-joined}
 use Rattle.model.proofs.Masks.{tdt-masked, tdt-timed}
 use Rattle.model.proofs.QueueRanges.{aborted-range, aborted-wire, held-before-aborted, kept-not-aborted, no-requests-range, aborted-all-range, requested-range, sending-range, off-wire-range}

@@ -9,7 +9,7 @@ use Rattle.model.specs.Base.{bit, bits}
 use Rattle.model.specs.Control.{mcrMasked, ierMasked, btrMasked, sleepCleared}
 use Rattle.model.specs.Mailboxes.{tdtMasked}
 use Rattle.model.specs.Registers.{filterMasked}
-use Rattle.model.proofs.Choices.{pick-cases}
+use Rattle.model.proofs.Tests.{pick-cases}
 
 -- ---- the parts of a word that is a sum
 

@@ -10,7 +10,7 @@ use Rattle.model.specs.declared.Mailbox.the-variants.{M0, M1, M2}
 use Rattle.model.specs.declared.RequestOrder.{RequestOrder}
 use Rattle.model.specs.declared.RequestOrder.the-variants.{Empty, One, Two, Three}
 use Rattle.model.specs.declared.Identifiers.{Identifiers}
-use Rattle.model.proofs.Choices.{pick-cases, and-l, and-r}
+use Rattle.model.proofs.Tests.{pick-cases, and-l, and-r}
 
 abbrev imp : Bool → Bool → Bool
 imp true b = b

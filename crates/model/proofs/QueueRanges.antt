@@ -12,7 +12,7 @@ use Rattle.model.specs.declared.Sender.the-variants.{Nobody, From}
 use Rattle.model.specs.declared.RequestOrder.{RequestOrder}
 use Rattle.model.specs.declared.MailboxBits.{MailboxBits}
 use Rattle.model.specs.declared.Queue.{Queue}
-use Rattle.model.proofs.Choices.{pick-cases, opposed}
+use Rattle.model.proofs.Tests.{pick-cases, opposed}
 use Rattle.model.proofs.OrderFacts.{distinct-without, distinct-joined, kept-without, kept-joined, gone-without, held-before-without}
 
 -- ---- a bit of three set or cleared

@@ -18,7 +18,7 @@ use Rattle.model.specs.declared.Mode.the-variants.{Sleep, Initialization
 use Rattle.model.specs.declared.Core.{Core}
 use Rattle.model.specs.declared.Register.{Register}
 use Rattle.model.specs.declared.Register.the-variants.{Mcr, Msr, Tsr, Rfr, Ier, Esr, Btr, Ti, Tdt, Tdl, Tdh, Ri, Rdt, Rdl, Rdh, Fmr, Fm1r, Fs1r, Ffa1r, Fa1r, R1, R2, Absent}
-use Rattle.model.proofs.Choices.{pick-cases, opposed, refused-if, refused-unless}
+use Rattle.model.proofs.Tests.{pick-cases, opposed, refused-if, refused-unless}
 use Rattle.model.proofs.Masks.{filter-masked}
 use Rattle.model.proofs.ControlRanges.{not-normal, mcr-written-range, msr-written-range, ier-written-range, btr-written-range, master-reset-range, esr-written-range}
 use Rattle.model.proofs.MailboxRanges.{dropped-range, tsr-written-range, tdt-transmit-range, tdl-transmit-range, tdh-transmit-range, requested-by-range}
