@@ -1,7 +1,11 @@
 -- Tests as equations, and cases of a choice.
 use mathlib.Core.Bool.{Bool, true, false, not, _&&_, _||_, Bool·beq, true≢false, false≢true}
-use mathlib.Core.Path.{_≡_, refl, sym, subst, ap}
-use Rattle.model.specs.Base.{pick}
+use mathlib.Core.Path.{_≡_, refl, sym, subst, ap, _∙_}
+use Prim.Native.Nat.{ℕ, _≤_}
+use native.Mathlib.Omega.{arith}
+use lib.Dec.{eqb}
+use borrow.Author.Tests.{eq-eqb, ne-eqb}
+use Rattle.model.specs.Base.{pick, one}
 
 -- a test, as an equation: it rewrites, and its argument is found
 abbrev pub Is : Bool → Type 0
@@ -46,3 +50,33 @@ beq-eq true true h = refl
 beq-eq true false h = absurd (false≢true h)
 beq-eq false true h = absurd (false≢true h)
 beq-eq false false h = refl
+
+pub opposed : {A : Type 0} {b : Bool} → b ≡ true → b ≡ false → A
+opposed t f = absurd (false≢true (sym f ∙ t))
+
+pub or-l : (a b : Bool) → Not (a || b) → Not a
+or-l true b h = h
+or-l false b h = refl
+
+pub or-r : (a b : Bool) → Not (a || b) → Not b
+or-r true b h = absurd (true≢false h)
+or-r false b h = h
+
+-- a code that is 0 says how the test of a refusal came out, and that the next code is 0
+pub refused-if : (b : Bool) (k n : ℕ) → eqb k 0 ≡ false → eqb (pick b k n) 0 ≡ true → (b ≡ false) × (eqb n 0 ≡ true)
+refused-if true k n e h = opposed h e
+refused-if false k n e h = (refl, h)
+
+pub refused-unless : (b : Bool) (n k : ℕ) → eqb k 0 ≡ false → eqb (pick b n k) 0 ≡ true → (b ≡ true) × (eqb n 0 ≡ true)
+refused-unless true n k e h = (refl, h)
+refused-unless false n k e h = opposed h e
+
+-- ---- flags as numbers
+
+pub one-le : (b : Bool) → one b ≤ 1
+one-le true = omega arith
+one-le false = omega arith
+
+pub one-bit : (n : ℕ) (a : Bool) → n ≡ one a → eqb n 1 ≡ a
+one-bit n true e = eq-eqb n 1 e
+one-bit n false e = ne-eqb n 1 (λ q. omega arith)

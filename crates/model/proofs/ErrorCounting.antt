@@ -29,9 +29,7 @@ use Rattle.model.specs.declared.Register.{Register}
 use Rattle.model.specs.declared.Register.the-variants.{Mcr, Msr, Tsr, Rfr, Ier, Esr, Btr, Ti, Tdt, Tdl, Tdh, Ri, Rdt, Rdl, Rdh, Fmr, Fm1r, Fs1r, Ffa1r, Fa1r, R1, R2, Absent}
 use Rattle.model.specs.declared.Step as steps
 use Rattle.model.specs.declared.Step.the-variants.{Reset, Read, Write, Idle, BitTimes, Activity, Start, Outcome, Receive, ReceiveError}
-use Rattle.model.proofs.Choices.{Is, Not, and-l, and-r, Is-not, pick-cases, pick-both}
-use Rattle.model.proofs.Views.{one-le}
-use Rattle.model.proofs.Fair.{one-bit}
+use Rattle.model.proofs.Choices.{Is, Not, and-l, and-r, Is-not, pick-cases, one-le, one-bit}
 use Rattle.model.proofs.Follows.{end-accepted, may-end}
 
 -- the counts as the controller stores them
@@ -100,7 +98,7 @@ last-count n h = go (eqb n 127) refl
 -- an accepted step: what an idle event that recovers does, and what any other step does
 idle-recovers : (z : Controller) → InRange z → isDone z Idle ≡ true → recovers (z .core .control) (z .core .errors) ≡ recovered (stored z) z Idle
 unfolding recovers counts
-idle-recovers z i h = rw (h, last-count (z .core .control .recovery) (i .control .recovery))
+idle-recovers z i h = rw (h, last-count (z .core .control .recovery) (i .core .control .recovery))
 
 wire-taken : (z : Controller) (r : ℕ) → isDone z (Outcome r) ≡ true → Not (isFree (z .core))
 unfolding refusal
@@ -116,7 +114,7 @@ applied-tec z Idle i h = ap (λ (b : Bool). pick b 0 (z .core .errors .tec)) (id
 applied-tec z (BitTimes n) i h = rw h
 applied-tec z Activity i h = rw h
 applied-tec z Start i h = rw h (start-tec _ (z .core))
-applied-tec z (Outcome r) i h = rw h (end-tec (z .core .transmit .queue .transmitting) (z .core) (z .banks) r (wire-taken z r h) (i .errors .tec))
+applied-tec z (Outcome r) i h = rw h (end-tec (z .core .transmit .queue .transmitting) (z .core) (z .banks) r (wire-taken z r h) (i .core .errors .tec))
 applied-tec z (Receive x) i h = rw h
 applied-tec z (ReceiveError k n) i h = rw h
 
@@ -306,7 +304,7 @@ module _ (z : Controller) where
   idle-count : InRange z → isDone z Idle ≡ true
       → counted (c .control) (c .errors) .recovery ≡ pick (countsIdle (stored z) z Idle) ((c .control .recovery + 1) % 128) (c .control .recovery)
   unfolding counted recovers counts
-  idle-count i h = rw h (counted-recovery (counts (c .control) (c .errors)) (leb 127 (c .control .recovery)) (c .control .recovery) (i .control .recovery) refl)
+  idle-count i h = rw h (counted-recovery (counts (c .control) (c .errors)) (leb 127 (c .control .recovery)) (c .control .recovery) (i .core .control .recovery) refl)
 
   idle-recovery : InRange z → isDone z Idle ≡ true
       → settled idle .control .recovery
@@ -370,8 +368,8 @@ end-counted z r i h =
     let n : Not (isNobody v) = wire-taken z r h in
     let d : Core = endedBy v c (z .banks) r in
     let k = end-recovery v c (z .banks) r n in
-    let t : d .errors .tec ≡ countedTec (Outcome r) (c .errors .tec) = end-tec v c (z .banks) r n (i .errors .tec) in
-    rw (h, i .wire .on n) (plain c d (ltb 255 (countedTec (Outcome r) (c .errors .tec))) (c .control .recovery) (k .0) (k .1 ∙ ap (λ (x : ℕ). pick (ltb 255 x) 0 (c .control .recovery)) t))
+    let t : d .errors .tec ≡ countedTec (Outcome r) (c .errors .tec) = end-tec v c (z .banks) r n (i .core .errors .tec) in
+    rw (h, i .core .wire .on n) (plain c d (ltb 255 (countedTec (Outcome r) (c .errors .tec))) (c .control .recovery) (k .0) (k .1 ∙ ap (λ (x : ℕ). pick (ltb 255 x) 0 (c .control .recovery)) t))
 
 -- in bus-off no own frame ends, and out of it no idle event counts
 idle-counted : (z : Controller) → InRange z → isDone z Idle ≡ true → Counted z Idle

@@ -6,7 +6,6 @@ use mathlib.Core.Logic.{_⊎_, inl, inr}
 use Prim.Native.Nat.{ℕ, suc, _≤_, _<_, _+_, _*_, _/_, _%_, _^_}
 use native.Mathlib.Omega.{arith}
 use lib.Dec.{leb, ltb, eqb}
-use borrow.Author.Tests.{eq-eqb, ne-eqb}
 use Rattle.model.specs.Base.{pick, bit, one}
 use Rattle.model.specs.Queue.{number, flag, holds, joined, senderNumber}
 use Rattle.model.specs.Mailboxes.{tsr, tsrByte, code, lastOf, tme}
@@ -26,9 +25,9 @@ use Rattle.model.specs.declared.Transmit.{Transmit}
 use Rattle.model.specs.declared.Controller.{Controller}
 use Rattle.model.specs.declared.Step as steps
 use Rattle.model.specs.declared.Step.the-variants.{Read}
-use Rattle.model.proofs.Choices.{Is, Not, Is-not, and-l, and-r, pick-cases}
+use Rattle.model.proofs.Choices.{Is, Not, Is-not, and-l, and-r, pick-cases, one-le, one-bit}
 use Rattle.model.proofs.Orders.{ahead, ahead-two, outOf, flag-out, holds-joined, last-joined}
-use Rattle.model.proofs.Views.{View, viewNext, Granted, Sound, requestsOf, requests-follow, sound-next, Waits, inFront, Turn, over, on, turn, one-le}
+use Rattle.model.proofs.Views.{View, viewNext, Granted, Sound, requestsOf, requests-follow, sound-next, Waits, inFront, Turn, over, on, turn}
 use Rattle.model.proofs.Follows.{viewOf, follows}
 
 -- ---- the observer's requests are the controller's
@@ -220,10 +219,6 @@ module _ (low : ℕ) (small : low < 2 ^ 26) (a b c : Bool) (x y z : ℕ) where
 
   bit-28 : word / 2 ^ 28 % 2 ≡ one c
   bit-28 = omega (arith, one-le a, one-le b, one-le c)
-
-pub one-bit : (n : ℕ) (a : Bool) → n ≡ one a → eqb n 1 ≡ a
-one-bit n true e = eq-eqb n 1 e
-one-bit n false e = ne-eqb n 1 (λ q. omega arith)
 
 byte-small : (x : MailboxState) (a : Bool) → tsrByte x a < 256
 unfolding tsrByte

@@ -14,6 +14,7 @@ use Rattle.model.specs.Control.{nart, txfp, awum, silm, lbkm, isNormal, 
 use Rattle.model.specs.Control as control
 use Rattle.model.specs.Registers.{registerAt, reset, coreReset, written, writeRefusal, isFree, hasRequest, withControl, withTransmit, isAbsent}
 use Rattle.model.specs.Step.{step, answered, coreAfter, refusal, wordOf, applied, settled, storedBy, startedBy, endedBy, mayStart, mayEnd, mayReceive, faultInRange}
+use Rattle.model.specs.Reachable.{carried}
 use Rattle.model.specs.Requests.{Event, nothing, drops, modes, accepts, aborts, starts, ends, writeEvent, stepEvent, event, entry}
 use Rattle.model.specs.declared.Mailbox.{Mailbox}
 use Rattle.model.specs.declared.Mailbox.the-variants.{M0, M1, M2}
@@ -176,6 +177,13 @@ first-held true i o m e =
     let k : Is (isFrom (oldest o) m) = rw e (same-refl m) in
     (oldest-held o m k, λ _. k)
 first-held false i o m e = (lowest-held i o m e, λ f. absurd (false≢true f))
+
+pub first-carried : (b : Bool) (i : Identifiers) (o : RequestOrder) → Is (carried (first b i o) o)
+first-carried b i o = go (first b i o) refl
+  where
+    go : (v : Sender) → first b i o ≡ v → Is (carried v o)
+    go Nobody e = refl
+    go (From m) e = first-held b i o m e .0
 
 -- where there is a request, there is a first one
 someone : (v : Sender) (m : Mailbox) → v ≡ From m → v ≡ Nobody → ⊥

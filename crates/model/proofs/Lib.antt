@@ -16,7 +16,17 @@ pub mod LowestNumber
 pub mod Preference
 pub mod Acceptances
 pub mod FilterNumbers
+pub mod ControlRanges
+pub mod CoreRanges
 pub mod ErrorCounting
+pub mod EventRanges
 pub mod Exampled
+pub mod FifoRanges
+pub mod MailboxRanges
+pub mod Masks
+pub mod QueueRanges
+pub mod Reached
 pub mod Readings
 pub mod Replays
+pub mod Tied
+pub mod WriteRanges

@@ -160,3 +160,9 @@ same-eq M2 M2 h = refl
 
 pub same-comm : (a b : Mailbox) → same a b ≡ same b a
 same-comm a b = beq-eq _ _ (each (λ o a b c. Bool·beq (same a b) (same b a)) refl Empty a b b)
+
+pub held-before-without : (o : RequestOrder) (m x : Mailbox) → Is (holds (without o x) m) → Is (holds o m)
+held-before-without o m x h = imp-Is (each (λ o m x b. imp (holds (without o x) m) (holds o m)) refl o m x x) h
+
+pub held-before-joined : (o : RequestOrder) (m x : Mailbox) → Is (holds (joined o x) m) → Not (same x m) → Is (holds o m)
+held-before-joined o m x h n = imp-Is (imp-Is (each (λ o m x b. imp (holds (joined o x) m) (imp (not (same x m)) (holds o m))) refl o m x x) h) (not-Is n)

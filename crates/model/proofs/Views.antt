@@ -19,7 +19,7 @@ use Rattle.model.specs.declared.RequestOrder.the-variants.{Empty, One, T
 use Rattle.model.specs.declared.MailboxBits.{MailboxBits}
 use Rattle.model.specs.declared.Queue.{Queue}
 use Rattle.model.proofs.Orders.{ahead, outOf, flag-out, out-without, distinct-without, gone-without, out-joined, distinct-joined, still, nearer, one-nearer, kept-without, gone-stays, kept-joined, ahead-joined, oldest-first, oldest-held, same-eq, same-comm}
-use Rattle.model.proofs.Choices.{Is, Not, not-Is, Is-not, pick-cases, pick-both}
+use Rattle.model.proofs.Choices.{Is, Not, not-Is, Is-not, pick-cases, pick-both, one-le}
 
 -- what of a controller decides about its requests
 pub record View : Type 0 where
@@ -163,10 +163,6 @@ front-joined (From y) o m x c h f = rw (ahead-joined o y x c, ahead-joined o m x
 front-without : (w : Sender) (o : RequestOrder) (m x : Mailbox) → Is (distinct o) → Is (carried w o) → Is (holds o m) → Not (same x m) → Not (isFrom w x) → Is (inFront w m o) → Is (inFront w m (without o x))
 front-without Nobody o m x d c h n k f = refl
 front-without (From y) o m x d c h n k f = still o d m x y h c (not-Is n) (not-Is (same-comm x y ∙ k)) f
-
-pub one-le : (b : Bool) → one b ≤ 1
-one-le true = omega arith
-one-le false = omega arith
 
 -- another's request leaves, not from the wire
 leave-turn : (s : Bool) (q : Queue) (m x : Mailbox) → same x m ≡ s → Sound q → Waits q m → Not (isFrom (q .transmitting) x) → Turn q (emptied q x) m false false

@@ -29,8 +29,7 @@ use Rattle.model.specs.declared.Register.{Register}
 use Rattle.model.specs.declared.Register.the-variants.{Mcr, Msr, Tsr, Rfr, Ier, Esr, Btr, Ti, Tdt, Tdl, Tdh, Ri, Rdt, Rdl, Rdh, Fmr, Fm1r, Fs1r, Ffa1r, Fa1r, R1, R2, Absent}
 use Rattle.model.specs.declared.Step as steps
 use Rattle.model.specs.declared.Step.the-variants.{Reset, Read, Write, Idle, BitTimes, Activity, Start, Outcome, Receive, ReceiveError}
-use Rattle.model.proofs.Choices.{Is, Not, pick-cases}
-use Rattle.model.proofs.Views.{one-le}
+use Rattle.model.proofs.Choices.{one-le}
 
 -- the frames of a FIFO, by its count
 pub data Holds (q : FifoState) : List StoredFrame → Type 0 where

@@ -210,7 +210,7 @@ unfoldable pub countsFrom : ErrorCounts → Controller → List steps.Step → E
 countsFrom a z [] = a
 countsFrom a z (s ∷ l) = countsFrom (countsNext a z s) (step z s .controller) l
 
--- ---- the tie, for every list of steps from hardware reset
+-- ---- the tie, for every list of steps from hardware reset whose numbers fit their widths (`StepsRange`)
 
 abbrev pub frames : Fifo → List steps.Step → List StoredFrame
 frames f l = waitingFrom f [] reset l

@@ -1,16 +1,15 @@
 -- The states that steps reach from hardware reset: what each field is then.
 -- Each word holds only the bits that its mask lets through.
-use mathlib.Core.Bool.{Bool, true, false, not, _&&_, _||_}
+use mathlib.Core.Bool.{Bool, true, false, not, _&&_}
 use mathlib.Core.List.{List, [], _∷_}
 use mathlib.Core.Path.{_≡_}
-use Prim.Native.Nat.{ℕ, _+_, _*_, _/_, _%_, _^_, _<_, _≤_}
-use lib.Dec.{eqb, ltb, leb}
+use Prim.Native.Nat.{ℕ, _+_, _*_, _-_, _/_, _%_, _^_, _<_, _≤_}
 use lib.ListN.{length}
-use Rattle.model.specs.Base.{pick, bit, bits}
-use Rattle.model.specs.Queue.{same, flag, holds, isFrom, isNobody}
-use Rattle.model.specs.Mailboxes.{tdtMasked}
-use Rattle.model.specs.Reception.{noFrame}
-use Rattle.model.specs.Control.{ttcm, isSleep, isNormal, boff, mcrMasked, ierMasked, btrMasked}
+use Rattle.model.specs.Base.{bit, bits, one}
+use Rattle.model.specs.Queue.{same, flag, holds, isFrom}
+use Rattle.model.specs.Mailboxes.{at, tdtMasked}
+use Rattle.model.specs.Reception.{dataBytes, bytesKept, noFrame}
+use Rattle.model.specs.Control.{inrq, sleep, ttcm, lbkm, silm, modeNext, isSleep, isInitialization, isNormal, boff, mcrMasked, ierMasked, btrMasked}
 use Rattle.model.specs.Registers.{bankCount, filterMasked, isFree}
 use Rattle.model.specs.declared.Mailbox.{Mailbox}
 use Rattle.model.specs.declared.Sender.{Sender}
@@ -19,6 +18,7 @@ use Rattle.model.specs.declared.RequestOrder.{RequestOrder}
 use Rattle.model.specs.declared.RequestOrder.the-variants.{Empty, One, Two, Three}
 use Rattle.model.specs.declared.Queue.{Queue}
 use Rattle.model.specs.declared.MailboxState.{MailboxState}
+use Rattle.model.specs.declared.Transmit.{Transmit}
 use Rattle.model.specs.declared.StoredFrame.{StoredFrame}
 use Rattle.model.specs.declared.FifoState.{FifoState}
 use Rattle.model.specs.declared.Frame.{Frame}
@@ -50,13 +50,21 @@ pub record QueueRange (q : Queue) : Type 0 where
   -- an abort is remembered only of the mailbox on the wire
   pub aborts : (m : Mailbox) → flag (q .aborts) m ≡ true → isFrom (q .transmitting) m ≡ true
 
--- TXRQ is not kept in `ti`
+-- TXRQ is not kept in `ti`; TXOK comes with RQCP; at most one of TXOK, ALST and TERR is set
 pub record MailboxRange (x : MailboxState) : Type 0 where
   pub ti : x .ti < 2 ^ 32
   pub even : x .ti / 2 * 2 ≡ x .ti
   pub tdt : tdtMasked (x .tdt) ≡ x .tdt
   pub tdl : x .tdl < 2 ^ 32
   pub tdh : x .tdh < 2 ^ 32
+  pub completes : x .txok ≡ true → x .rqcp ≡ true
+  pub result : one (x .txok) + one (x .alst) + one (x .terr) ≤ 1
+
+-- RQCP is 0 while the mailbox has a request
+pub record TransmitRange (t : Transmit) : Type 0 where
+  pub queue : QueueRange (t .queue)
+  pub mailboxes : (m : Mailbox) → MailboxRange (at (t .mailboxes) m)
+  pub pending : (m : Mailbox) → holds (t .queue .order) m ≡ true → at (t .mailboxes) m .rqcp ≡ false
 
 -- ---- frames
 
@@ -66,7 +74,11 @@ pub record IdentifierRange (w : ℕ) : Type 0 where
   pub even : bit 0 w ≡ false
   pub standard : bit 2 w ≡ false → bits 3 18 w ≡ 0
 
--- FMI is below 4 times the number of banks
+-- what a stored frame carries
+abbrev pub frameOf : StoredFrame → Frame
+frameOf x = record { identifier = x .ri; low = x .rdl; high = x .rdh; length = x .rdt % 16 }
+
+-- FMI is below 4 times the number of banks; bytes past the length are 0
 pub record FrameRange (x : StoredFrame) : Type 0 where
   pub ri : IdentifierRange (x .ri)
   pub rdt : x .rdt < 2 ^ 32
@@ -74,6 +86,8 @@ pub record FrameRange (x : StoredFrame) : Type 0 where
   pub fmi : bits 8 8 (x .rdt) < 4 * bankCount
   pub rdl : x .rdl < 2 ^ 32
   pub rdh : x .rdh < 2 ^ 32
+  pub low : bytesKept (dataBytes (frameOf x)) (x .rdl) ≡ x .rdl
+  pub high : bytesKept (dataBytes (frameOf x) - 4) (x .rdh) ≡ x .rdh
 
 -- places past the count hold zeros
 pub record FifoRange (q : FifoState) : Type 0 where
@@ -113,30 +127,42 @@ pub record ErrorRange (e : Errors) : Type 0 where
   pub rec : e .rec ≤ 255
   pub lec : e .lec ≤ 7
 
--- out of bus-off nothing counts towards recovery
+-- out of bus-off nothing counts towards recovery; in Initialization the count is 0, and the recovery from bus-off may begin
 pub record RecoveryRange (k : Control) (e : Errors) : Type 0 where
   pub count : boff e ≡ false → k .recovery ≡ 0
   pub initialized : boff e ≡ false → k .initialized ≡ false
+  pub fresh : isInitialization (k .mode) ≡ true → k .recovery ≡ 0
+  pub begins : isInitialization (k .mode) ≡ true → boff e ≡ true → k .initialized ≡ true
 
--- with an own frame on the wire: Normal and not bus-off
+-- SILM=1 with LBKM=0: nothing is sent
+abbrev pub silent : Control → Bool
+silent k = silm k && not (lbkm k)
+
+-- with an own frame on the wire: Normal, not bus-off and not silent
 pub record WireRange (c : Core) : Type 0 where
   pub normal : isFree c ≡ false → isNormal (c .control .mode) ≡ true
   pub on : isFree c ≡ false → boff (c .errors) ≡ false
+  pub heard : isFree c ≡ false → silent (c .control) ≡ false
 
 -- ---- the controller
 
+pub record CoreRange (c : Core) : Type 0 where
+  pub control : ControlRange (c .control)
+  pub errors : ErrorRange (c .errors)
+  pub recovery : RecoveryRange (c .control) (c .errors)
+  pub wire : WireRange c
+  pub transmit : TransmitRange (c .transmit)
+  pub fifo0 : FifoRange (c .fifo0)
+  pub fifo1 : FifoRange (c .fifo1)
+  pub filters : FilterRange (c .filters)
+
+-- with no own frame on the wire the mode has followed INRQ and SLEEP
+abbrev pub Followed : Core → Type 0
+Followed c = isFree c ≡ true → modeNext (c .control .mode) (inrq (c .control)) (sleep (c .control)) ≡ c .control .mode
+
 pub record InRange (z : Controller) : Type 0 where
-  pub control : ControlRange (z .core .control)
-  pub errors : ErrorRange (z .core .errors)
-  pub recovery : RecoveryRange (z .core .control) (z .core .errors)
-  pub wire : WireRange (z .core)
-  pub queue : QueueRange (z .core .transmit .queue)
-  pub m0 : MailboxRange (z .core .transmit .mailboxes .m0)
-  pub m1 : MailboxRange (z .core .transmit .mailboxes .m1)
-  pub m2 : MailboxRange (z .core .transmit .mailboxes .m2)
-  pub fifo0 : FifoRange (z .core .fifo0)
-  pub fifo1 : FifoRange (z .core .fifo1)
-  pub filters : FilterRange (z .core .filters)
+  pub core : CoreRange (z .core)
+  pub mode : Followed (z .core)
   pub bankWords : length (z .banks) ≡ 2 * bankCount
   pub banks : Words (z .banks)
 
