@@ -71,6 +71,12 @@ reading s p =
     (pick (ltb (length s - p) (3 + bodyLength (byteAt s p))) (Malformed 6)
     (Found (decoded (byteAt s p) (part s (p + 3) (p + 3 + bodyLength (byteAt s p)))) (p + 3 + bodyLength (byteAt s p)))))))
 
+-- the code that a reading gives by itself: 0 at the end and for a record that can be read
+abbrev pub readingCode : Reading → ℕ
+readingCode End = 0
+readingCode (Malformed k) = k
+readingCode (Found e q) = 0
+
 -- ---- one record
 
 -- 81 06 00, code, lines, word

@@ -108,7 +108,7 @@ pub struct Frame {
 pub struct Bank(pub u32);
 
 // The number of a filter in its FIFO.
-pub struct FilterNumber(pub u32);
+pub struct FilterNumber(pub u8);
 
 // What the scale and mode bits make of a bank.
 pub enum FilterClass {
@@ -262,7 +262,7 @@ pub struct Replayed {
     pub word: u32,
 }
 
-// What a whole script gives: the last controller, the place where the replay stopped, how many records were answered,
+// What a whole script gives: the last controller, the place where the replay stopped, how many records were read and done,
 // how many bytes of replies were written, and the last answer.
 pub struct Replay {
     pub controller: Controller,
