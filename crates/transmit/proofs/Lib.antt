@@ -1,0 +1,2 @@
+pub mod StatusParts
+pub mod TransmitRequest
