@@ -37,13 +37,11 @@ pub fn data_bytes(x: Frame) -> u8
 pub fn bytes_kept(n: u8, w: u32) -> u32
     ensures { λ r. ⌜ r ≡ reception.bytesKept n w ⌝ }
 {
-    match n {
-        0 => 0,
-        1 => w % 0x100,
-        2 => w % 0x10000,
-        3 => w % 0x1000000,
-        _ => w,
+    if 4 <= n {
+        return w;
     }
+    let bits = 8 * (n as u32);
+    w % (1 << bits)
 }
 
 fn past_four(n: u8) -> u8
@@ -159,20 +157,20 @@ pub fn pushed(q: FifoState, x: StoredFrame, rflm: bool) -> FifoState
 pub fn goes_into(f: Fifo, a: Acceptance) -> bool
     ensures { λ r. ⌜ r ≡ reception.goesInto f a ⌝ }
 {
-    match a {
-        Acceptance::Into(g, _) => match f {
-            Fifo::F0 => match g {
+    match f {
+        Fifo::F0 => match a {
+            Acceptance::Into(g, _) => match g {
                 Fifo::F0 => true,
                 Fifo::F1 => false,
             },
-            Fifo::F1 => match g {
+            Acceptance::Rejected => false,
+        },
+        Fifo::F1 => match a {
+            Acceptance::Into(g, _) => match g {
                 Fifo::F0 => false,
                 Fifo::F1 => true,
             },
-        },
-        Acceptance::Rejected => match f {
-            Fifo::F0 => false,
-            Fifo::F1 => false,
+            Acceptance::Rejected => false,
         },
     }
 }
