@@ -1,0 +1,29 @@
+use Rattle.model.specs.Control.{counts}
+use borrow.Author.Needs.{needs}
+use Rattle.control.proofs.counts.Statement.{statement}
+use Rattle.control.proofs.counts.Tie as tie
+use Rattle.control.proofs.counts.Reads as reads
+use Rattle.control.proofs.counts.Lts as lts
+use Rattle.control.proofs.abom.Reads as abom-reads
+use Rattle.control.proofs.boff.Reads as boff-reads
+use Rattle.control.proofs.is_normal.Reads as is-normal-reads
+
+-- src/lib.rt:351:5
+boff-requires : tie.Need-boff-requires
+boff-requires c κs = search needs
+
+-- src/lib.rt:351:15
+is-normal-requires : tie.Need-is-normal-requires
+is-normal-requires c κs = search needs
+
+-- src/lib.rt:351:31
+abom-requires : tie.Need-abom-requires
+abom-requires c κs = search needs
+
+-- src/lib.rt:347:1
+returns : tie.Need-returns
+unfolding counts
+returns c = simp (c .before .abom .ensures, c .before .before .is-normal .ensures, c .before .before .before .boff .ensures)
+
+pub counts-spec : {M : Type 1} → statement M
+counts-spec = tie.close (tie.spec boff-requires is-normal-requires abom-requires returns)

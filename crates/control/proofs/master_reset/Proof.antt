@@ -1,0 +1,14 @@
+use mathlib.Core.Path.{refl}
+use Rattle.model.specs.Control.{masterReset}
+use Rattle.control.proofs.master_reset.Statement.{statement}
+use Rattle.control.proofs.master_reset.Tie as tie
+use Rattle.control.proofs.master_reset.Reads as reads
+use Rattle.control.proofs.master_reset.Lts as lts
+
+-- src/lib.rt:247:1
+returns : tie.Need-returns
+unfolding masterReset
+returns c = refl
+
+pub master-reset-spec : {M : Type 1} → statement M
+master-reset-spec = tie.close (tie.spec returns)

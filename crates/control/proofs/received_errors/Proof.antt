@@ -1,0 +1,24 @@
+use Rattle.model.specs.Control.{receivedErrors}
+use borrow.Author.Needs.{needs}
+use Rattle.control.proofs.received_errors.Statement.{statement}
+use Rattle.control.proofs.received_errors.Tie as tie
+use Rattle.control.proofs.received_errors.Reads as reads
+use Rattle.control.proofs.received_errors.Lts as lts
+use Rattle.bits.proofs.pick_u8.Reads as pick-u8-reads
+use Rattle.control.proofs.less_one_u8.Reads as less-one-u8-reads
+
+-- src/lib.rt:470:40
+less-one-u8-requires : tie.Need-less-one-u8-requires
+less-one-u8-requires c κs = search needs
+
+-- src/lib.rt:470:14
+pick-u8-requires : tie.Need-pick-u8-requires
+pick-u8-requires c κs = search needs
+
+-- src/lib.rt:465:1
+returns : tie.Need-returns
+unfolding receivedErrors
+returns c = simp (c .pick-u8 .ensures, c .before .less-one-u8 .ensures)
+
+pub received-errors-spec : {M : Type 1} → statement M
+received-errors-spec = tie.close (tie.spec less-one-u8-requires pick-u8-requires returns)

@@ -1,0 +1,19 @@
+use Rattle.model.specs.Control.{recovers}
+use borrow.Author.Needs.{needs}
+use Rattle.control.proofs.recovers.Statement.{statement}
+use Rattle.control.proofs.recovers.Tie as tie
+use Rattle.control.proofs.recovers.Reads as reads
+use Rattle.control.proofs.recovers.Lts as lts
+use Rattle.control.proofs.counts.Reads as counts-reads
+
+-- src/lib.rt:357:5
+counts-requires : tie.Need-counts-requires
+counts-requires c κs = search needs
+
+-- src/lib.rt:354:1
+returns : tie.Need-returns
+unfolding recovers
+returns c = simp (c .before .counts .ensures)
+
+pub recovers-spec : {M : Type 1} → statement M
+recovers-spec = tie.close (tie.spec counts-requires returns)

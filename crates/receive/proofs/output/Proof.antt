@@ -1,0 +1,30 @@
+use Rattle.model.specs.Reception.{output}
+use borrow.Author.Tests.{eq-eqb, ne-eqb}
+use borrow.Author.Needs.{needs}
+use Rattle.receive.proofs.output.Statement.{statement}
+use Rattle.receive.proofs.output.Tie as tie
+use Rattle.receive.proofs.output.Reads as reads
+use Rattle.receive.proofs.output.Lts as lts
+use Rattle.receive.proofs.no_frame.Reads as no-frame-reads
+use Rattle.receive.proofs.same_frame.Reads as same-frame-reads
+
+-- src/lib.rt:245:9
+no-frame-requires : tie.Need-no-frame-requires
+no-frame-requires c κs = search needs
+
+-- src/lib.rt:245:9
+returns : tie.Need-returns
+unfolding output
+returns c = simp (c .no-frame .ensures, eq-eqb _ _ (c .before .if1 .taken))
+
+-- src/lib.rt:248:5
+same-frame-requires : tie.Need-same-frame-requires
+same-frame-requires c κs = search needs
+
+-- src/lib.rt:241:1
+returns-2 : tie.Need-returns-2
+unfolding output
+returns-2 c = simp (c .same-frame .ensures, ne-eqb _ _ (c .before .before .if1 .left))
+
+pub output-spec : {M : Type 1} → statement M
+output-spec = tie.close (tie.spec no-frame-requires returns same-frame-requires returns-2)
