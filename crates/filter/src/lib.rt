@@ -1,7 +1,9 @@
 // The filter that a frame passes: the classes of the banks, the numbers of their filters, and the search.
 // A word of `Filters` has a bit for each bank; `banks` holds R1 and R2 of each bank in turn; w is the frame's identifier word.
 ghost use mathlib.Core.Path.{_≡_};
-ghost use Prim.Native.Nat.{_+_, _<_, _≤_};
+ghost use Prim.Native.Nat.{ℕ, _+_, _<_, _≤_};
+ghost use lib.Dec.{eqb};
+ghost use Rattle.model.specs.Base as base;
 ghost use Rattle.model.specs.Banks as banks;
 ghost use Rattle.model.specs.Search as search;
 ghost use Rattle.model.proofs.Digits as digits;
@@ -15,39 +17,7 @@ use model::FilterNumber;
 use model::Filters;
 use model::Hit;
 
-// ---- the class of a bank
-
-fn class_by(scale: bool, mode: bool) -> FilterClass
-    ensures { λ r. ⌜ r ≡ banks.classBy scale mode ⌝ }
-{
-    if scale {
-        if mode {
-            return FilterClass::List32;
-        }
-        return FilterClass::Mask32;
-    }
-    if mode {
-        return FilterClass::List16;
-    }
-    FilterClass::Mask16
-}
-
-pub fn class_of(g: Filters, b: Bank) -> FilterClass
-    ensures { λ r. ⌜ r ≡ banks.classOf g (b .0) ⌝ }
-{
-    class_by(bit(b.0, g.scale), bit(b.0, g.mode))
-}
-
-fn rank(k: FilterClass) -> u32
-    ensures { λ r. ⌜ r ≡ banks.rank k ⌝ }
-{
-    match k {
-        FilterClass::List32 => 0,
-        FilterClass::Mask32 => 1,
-        FilterClass::List16 => 2,
-        FilterClass::Mask16 => 3,
-    }
-}
+// ---- the filters of a bank
 
 // How many filters a bank gives.
 pub fn width(k: FilterClass) -> u32
@@ -60,8 +30,6 @@ pub fn width(k: FilterClass) -> u32
         FilterClass::Mask16 => 2,
     }
 }
-
-// ---- its filters
 
 // The word that 16-bit filters look at.
 fn short_word(w: u32) -> u32
@@ -105,16 +73,7 @@ pub fn matches(k: FilterClass, a: u32, b: u32, j: u32, w: u32) -> bool
     }
 }
 
-// ---- its numbers
-
-fn belongs(f: Fifo, g: Filters, b: Bank) -> bool
-    ensures { λ r. ⌜ r ≡ banks.belongs f g (b .0) ⌝ }
-{
-    match f {
-        Fifo::F0 => !bit(b.0, g.assignment),
-        Fifo::F1 => bit(b.0, g.assignment),
-    }
-}
+// ---- their numbers in a FIFO
 
 // The word with a 1 for each bank of the FIFO.
 fn own(f: Fifo, g: Filters) -> u32
@@ -168,17 +127,30 @@ fn number(n: u32, g: Filters, f: Fifo, b: Bank, j: u32) -> FilterNumber
 
 // ---- the search of one class in one FIFO
 
-fn searched(g: Filters, k: FilterClass, f: Fifo, b: Bank) -> bool
-    ensures { λ r. ⌜ r ≡ search.searched g k f (b .0) ⌝ }
+// The word with a 1 for each bank of the class.
+fn of_class(g: Filters, k: FilterClass) -> u32
+    ensures { λ r. ⌜ ((i : ℕ) → i < 32 → base.bit i r ≡ eqb (banks.rank (banks.classOf g i)) (banks.rank k)) ⌝ }
 {
-    bit(b.0, g.activation) & (belongs(f, g, b) & (rank(class_of(g, b)) == rank(k)))
+    match k {
+        FilterClass::List32 => g.scale & g.mode,
+        FilterClass::Mask32 => g.scale & !g.mode,
+        FilterClass::List16 => !g.scale & g.mode,
+        FilterClass::Mask16 => !g.scale & !g.mode,
+    }
 }
 
-// How many filters of a bank are looked at: none where it has no part in the search.
-fn tried(g: Filters, k: FilterClass, f: Fifo, b: Bank) -> u32
-    ensures { λ r. ⌜ r ≡ search.tried g k f (b .0) ⌝ }
+// The word with a 1 for each bank that is searched; made once, so that the search passes the others by one test of a bit.
+fn searched(g: Filters, k: FilterClass, f: Fifo) -> u32
+    ensures { λ r. ⌜ ((i : ℕ) → i < 32 → base.bit i r ≡ search.searched g k f i) ⌝ }
 {
-    pick_u32(searched(g, k, f, b), width(k), 0)
+    g.activation & (own(f, g) & of_class(g, k))
+}
+
+// How many filters of a bank are looked at: none where the bank has no part in the search.
+fn tried(k: FilterClass, part: u32, b: Bank) -> u32
+    ensures { λ r. ⌜ r ≡ base.pick (base.bit (b .0) part) (banks.width k) 0 ⌝ }
+{
+    pick_u32(bit(b.0, part), width(k), 0)
 }
 
 // The matching filter with the lowest number.
@@ -186,12 +158,13 @@ fn first_hit(n: u32, g: Filters, banks: &[u32; 28], w: u32, k: FilterClass, f: F
     requires { ⌜ n ≤ 14 ⌝ }
     ensures { λ r. ⌜ r ≡ search.firstHit n g (now (banks .entry)) w k f ⌝ }
 {
+    let part = searched(g, k, f);
     let mut i: u32 = 0;
     'search: loop {
         if n <= i {
             break Hit::Nothing;
         }
-        let m = tried(g, k, f, Bank(i));
+        let m = tried(k, part, Bank(i));
         let a = banks[(2 * i) as usize];
         let b = banks[(2 * i + 1) as usize];
         let mut j: u32 = 0;

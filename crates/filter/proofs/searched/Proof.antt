@@ -1,46 +1,26 @@
-use Rattle.model.specs.Search.{searched}
+use native.Mathlib.Omega.{arith}
+use Rattle.filter.proofs.BankWords.{searched-bit}
 use borrow.Author.Needs.{needs}
 use Rattle.filter.proofs.searched.Statement.{statement}
 use Rattle.filter.proofs.searched.Tie as tie
 use Rattle.filter.proofs.searched.Reads as reads
 use Rattle.filter.proofs.searched.Lts as lts
-use Rattle.bits.proofs.bit.Reads as bit-reads
-use Rattle.filter.proofs.belongs.Reads as belongs-reads
-use Rattle.filter.proofs.class_of.Reads as class-of-reads
-use Rattle.filter.proofs.rank.Reads as rank-reads
+use Rattle.filter.proofs.of_class.Reads as of-class-reads
+use Rattle.filter.proofs.own.Reads as own-reads
 
--- src/lib.rt:174:5
-bit-requires : tie.Need-bit-requires
-bit-requires c κs = search needs
+-- src/lib.rt:146:21
+own-requires : tie.Need-own-requires
+own-requires c κs = search needs
 
--- src/lib.rt:174:31
-belongs-requires : tie.Need-belongs-requires
-belongs-requires c κs = search needs
+-- src/lib.rt:146:33
+of-class-requires : tie.Need-of-class-requires
+of-class-requires c κs = search needs
 
--- src/lib.rt:174:56
-class-of-requires : tie.Need-class-of-requires
-class-of-requires c κs = search needs
-
--- src/lib.rt:174:51
-rank-requires : tie.Need-rank-requires
-rank-requires c κs = search needs
-
--- src/lib.rt:174:75
-rank-requires-2 : tie.Need-rank-requires-2
-rank-requires-2 c κs = search needs
-
--- src/lib.rt:171:1
+-- src/lib.rt:143:1
 returns : tie.Need-returns
-unfolding searched
-returns c = simp (c .rank2 .ensures, c .before .rank .ensures, c .before .before .class-of .ensures, c .before .before .before .belongs .ensures, c .before .before .before .before .bit .ensures)
+returns c =
+    λ i h. simp (c .before .before .own .ensures)
+    (searched-bit (c .before .before .before .args .g) (c .before .before .before .args .k) (c .before .before .before .args .f) _ i h (omega (arith, c .struct-known .given)) (c .before .of-class .ensures i h))
 
 pub searched-spec : {M : Type 1} → statement M
-searched-spec =
-    tie.close
-    (tie.spec
-    bit-requires
-    belongs-requires
-    class-of-requires
-    rank-requires
-    rank-requires-2
-    returns)
+searched-spec = tie.close (tie.spec own-requires of-class-requires returns)
