@@ -1,0 +1,85 @@
+-- Words with a bit for each bank: of a class, and of those that a search looks at. Assumes nothing.
+use mathlib.Core.Path.{_≡_, refl, ap, ap₂, _∙_}
+use mathlib.Core.Bool.{Bool, true, false, not, _&&_}
+use Prim.Native.Nat.{ℕ, _-_, _/_, _%_, _^_, _<_, min}
+use native.Mathlib.Omega.{arith}
+use lib.Dec.{eqb}
+use lib.Bits.{bitAnd}
+use Rattle.model.specs.Base.{pick, bit}
+use Rattle.model.specs.Banks.{classBy, classOf, rank, width, own}
+use Rattle.model.specs.Search.{searched, tried}
+use Rattle.model.specs.declared.Filters.{Filters}
+use Rattle.model.specs.declared.Fifo.{Fifo}
+use Rattle.model.specs.declared.FilterClass.{FilterClass}
+use Rattle.model.specs.declared.FilterClass.the-variants.{List32, Mask32, List16, Mask16}
+use Rattle.model.proofs.Digits.{for-digit, and-digit, not-digit}
+use Rattle.model.proofs.Numbering.{own-digit}
+
+-- ---- a bit of `a & b` and of the 32-bit `!a`
+
+both-digits : (x y : ℕ) → x < 2 → y < 2 → eqb (min x y) 1 ≡ (eqb x 1 && eqb y 1)
+both-digits x y hx hy =
+    for-digit (λ (x : ℕ). eqb (min x y) 1 ≡ (eqb x 1 && eqb y 1))
+    (for-digit (λ (y : ℕ). eqb (min 0 y) 1 ≡ (eqb 0 1 && eqb y 1)) refl refl y hy)
+    (for-digit (λ (y : ℕ). eqb (min 1 y) 1 ≡ (eqb 1 1 && eqb y 1)) refl refl y hy)
+    x hx
+
+other-digit : (x : ℕ) → x < 2 → eqb (1 - x) 1 ≡ not (eqb x 1)
+other-digit = for-digit (λ (x : ℕ). eqb (1 - x) 1 ≡ not (eqb x 1)) refl refl
+
+and-bit : (i a b : ℕ) → bit i (bitAnd a b) ≡ (bit i a && bit i b)
+and-bit i a b = rw (and-digit i a b) (both-digits (a / 2 ^ i % 2) (b / 2 ^ i % 2) (omega arith) (omega arith))
+
+not-bit : (i a : ℕ) → i < 32 → a < 2 ^ 32 → bit i ((2 ^ 32 - 1) - a) ≡ not (bit i a)
+not-bit i a h l = rw (not-digit i a h l) (other-digit (a / 2 ^ i % 2) (omega arith))
+
+-- ---- the banks of a class, from the words g .scale and g .mode
+
+-- what is shown of the four cases of two flags holds of every two
+for-flags : (P : Bool → Bool → Type 0) → P true true → P true false → P false true → P false false → (s m : Bool) → P s m
+for-flags P a b c d true true = a
+for-flags P a b c d true false = b
+for-flags P a b c d false true = c
+for-flags P a b c d false false = d
+
+-- the word with a 1 for each bank of the class
+abbrev pub ofClass : FilterClass → Filters → ℕ
+ofClass List32 g = bitAnd (g .scale) (g .mode)
+ofClass Mask32 g = bitAnd (g .scale) ((2 ^ 32 - 1) - g .mode)
+ofClass List16 g = bitAnd ((2 ^ 32 - 1) - g .scale) (g .mode)
+ofClass Mask16 g = bitAnd ((2 ^ 32 - 1) - g .scale) ((2 ^ 32 - 1) - g .mode)
+
+-- two flags make a bank one of the class
+abbrev Is : FilterClass → Bool → Bool → Bool
+Is k s m = eqb (rank (classBy s m)) (rank k)
+
+module _ (g : Filters) (i : ℕ) (h : i < 32) (hs : g .scale < 2 ^ 32) (hm : g .mode < 2 ^ 32) where
+  pub of-class-bit : (k : FilterClass) → bit i (ofClass k g) ≡ eqb (rank (classOf g i)) (rank k)
+  unfolding classOf
+  of-class-bit List32 =
+      rw (and-bit i (g .scale) (g .mode))
+      (for-flags (λ (s m : Bool). (s && m) ≡ Is List32 s m) refl refl refl refl (bit i (g .scale)) (bit i (g .mode)))
+  of-class-bit Mask32 =
+      rw (and-bit i (g .scale) ((2 ^ 32 - 1) - g .mode), not-bit i (g .mode) h hm)
+      (for-flags (λ (s m : Bool). (s && not m) ≡ Is Mask32 s m) refl refl refl refl (bit i (g .scale)) (bit i (g .mode)))
+  of-class-bit List16 =
+      rw (and-bit i ((2 ^ 32 - 1) - g .scale) (g .mode), not-bit i (g .scale) h hs)
+      (for-flags (λ (s m : Bool). (not s && m) ≡ Is List16 s m) refl refl refl refl (bit i (g .scale)) (bit i (g .mode)))
+  of-class-bit Mask16 =
+      rw (and-bit i ((2 ^ 32 - 1) - g .scale) ((2 ^ 32 - 1) - g .mode), not-bit i (g .scale) h hs, not-bit i (g .mode) h hm)
+      (for-flags (λ (s m : Bool). (not s && not m) ≡ Is Mask16 s m) refl refl refl refl (bit i (g .scale)) (bit i (g .mode)))
+
+-- ---- the banks that a search looks at
+
+-- x is the word of the banks of the class
+pub searched-bit : (g : Filters) (k : FilterClass) (f : Fifo) (x i : ℕ) → i < 32 → g .assignment < 2 ^ 32
+    → bit i x ≡ eqb (rank (classOf g i)) (rank k) → bit i (bitAnd (g .activation) (bitAnd (own f g) x)) ≡ searched g k f i
+unfolding searched
+searched-bit g k f x i h ha e =
+    rw (and-bit i (g .activation) (bitAnd (own f g) x), and-bit i (own f g) x, own-digit f g i h ha, e)
+
+-- m filters of bank i are looked at where x is the word of the banks that are searched
+pub tried-by-bit : (g : Filters) (k : FilterClass) (f : Fifo) (x i m : ℕ) → ((j : ℕ) → j < 32 → bit j x ≡ searched g k f j) → i < 32
+    → m ≡ pick (bit i x) (width k) 0 → m ≡ tried g k f i
+unfolding tried
+tried-by-bit g k f x i m e h d = d ∙ rw (e i h)

@@ -1,0 +1,26 @@
+use native.Mathlib.Omega.{arith}
+use Rattle.filter.proofs.BankWords.{searched-bit}
+use borrow.Author.Needs.{needs}
+use Rattle.filter.proofs.searched.Statement.{statement}
+use Rattle.filter.proofs.searched.Tie as tie
+use Rattle.filter.proofs.searched.Reads as reads
+use Rattle.filter.proofs.searched.Lts as lts
+use Rattle.filter.proofs.of_class.Reads as of-class-reads
+use Rattle.filter.proofs.own.Reads as own-reads
+
+-- src/lib.rt:146:21
+own-requires : tie.Need-own-requires
+own-requires c κs = search needs
+
+-- src/lib.rt:146:33
+of-class-requires : tie.Need-of-class-requires
+of-class-requires c κs = search needs
+
+-- src/lib.rt:143:1
+returns : tie.Need-returns
+returns c =
+    λ i h. simp (c .before .before .own .ensures)
+    (searched-bit (c .before .before .before .args .g) (c .before .before .before .args .k) (c .before .before .before .args .f) _ i h (omega (arith, c .struct-known .given)) (c .before .of-class .ensures i h))
+
+pub searched-spec : {M : Type 1} → statement M
+searched-spec = tie.close (tie.spec own-requires of-class-requires returns)

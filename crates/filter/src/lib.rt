@@ -1,0 +1,236 @@
+// The filter that a frame passes: the classes of the banks, the numbers of their filters, and the search.
+// A word of `Filters` has a bit for each bank; `banks` holds R1 and R2 of each bank in turn; w is the frame's identifier word.
+ghost use mathlib.Core.Path.{_≡_};
+ghost use Prim.Native.Nat.{ℕ, _+_, _<_, _≤_};
+ghost use lib.Dec.{eqb};
+ghost use Rattle.model.specs.Base as base;
+ghost use Rattle.model.specs.Banks as banks;
+ghost use Rattle.model.specs.Search as search;
+ghost use Rattle.model.proofs.Digits as digits;
+use bits::bit;
+use bits::pick_u32;
+use model::Acceptance;
+use model::Bank;
+use model::Fifo;
+use model::FilterClass;
+use model::FilterNumber;
+use model::Filters;
+use model::Hit;
+
+// ---- the filters of a bank
+
+// How many filters a bank gives.
+pub fn width(k: FilterClass) -> u32
+    ensures { λ r. ⌜ r ≡ banks.width k ⌝ }
+{
+    match k {
+        FilterClass::List32 => 2,
+        FilterClass::Mask32 => 1,
+        FilterClass::List16 => 4,
+        FilterClass::Mask16 => 2,
+    }
+}
+
+// The word that 16-bit filters look at.
+fn short_word(w: u32) -> u32
+    ensures { λ r. ⌜ r ≡ banks.shortWord w ⌝ }
+{
+    (w >> 21) * 32 + (w >> 1) % 2 * 16 + (w >> 2) % 2 * 8 + (w >> 18) % 8
+}
+
+fn takes_under(x: u32, m: u32, w: u32) -> bool
+    ensures { λ r. ⌜ r ≡ banks.takes (banks.under x m) w ⌝ }
+{
+    w & m == x & m
+}
+
+// Whether filter j of a bank of class k with the words a and b takes a frame.
+pub fn matches(k: FilterClass, a: u32, b: u32, j: u32, w: u32) -> bool
+    ensures { λ r. ⌜ r ≡ banks.matches k a b j w ⌝ }
+{
+    match k {
+        FilterClass::List32 => match j {
+            0 => w == a,
+            1 => w == b,
+            _ => false,
+        },
+        FilterClass::Mask32 => match j {
+            0 => takes_under(a, b, w),
+            _ => false,
+        },
+        FilterClass::List16 => match j {
+            0 => short_word(w) == a % 65536,
+            1 => short_word(w) == a / 65536,
+            2 => short_word(w) == b % 65536,
+            3 => short_word(w) == b / 65536,
+            _ => false,
+        },
+        FilterClass::Mask16 => match j {
+            0 => takes_under(a % 65536, a / 65536, short_word(w)),
+            1 => takes_under(b % 65536, b / 65536, short_word(w)),
+            _ => false,
+        },
+    }
+}
+
+// ---- their numbers in a FIFO
+
+// The word with a 1 for each bank of the FIFO.
+fn own(f: Fifo, g: Filters) -> u32
+    ensures { λ r. ⌜ r ≡ banks.own f g ⌝ }
+{
+    match f {
+        Fifo::F0 => !g.assignment,
+        Fifo::F1 => g.assignment,
+    }
+}
+
+fn ones_below(i: u32, w: u32) -> u32
+    requires { ⌜ i < 32 ⌝ }
+    ensures { λ r. ⌜ (r ≡ digits.onesBelow i w) × (r ≤ 32) ⌝ }
+{
+    u32::count_ones(w & ((1 << i) - 1))
+}
+
+// Of n banks: each lower bank of the FIFO, active or not, takes one number, one more if it is a list, and as many again
+// if it has 16 bits.
+fn first_number_of(n: u32, g: Filters, f: Fifo, b: Bank) -> FilterNumber
+    requires { ⌜ n ≤ 28 ⌝ }
+    ensures { λ r. ⌜ (r ≡ banks.firstNumber n g f b) × (r .0 ≤ 128) ⌝ }
+{
+    let i = pick_u32(b.0 < n, b.0, n);
+    let mine = own(f, g);
+    let lists = mine & g.mode;
+    let halves = !g.scale;
+    let number = ones_below(i, mine)
+        + ones_below(i, lists)
+        + ones_below(i, mine & halves)
+        + ones_below(i, lists & halves);
+    FilterNumber(number)
+}
+
+// The number that the first filter of a bank has in a FIFO.
+pub fn first_number(g: Filters, f: Fifo, b: Bank) -> FilterNumber
+    ensures { λ r. ⌜ r ≡ banks.firstNumber 14 g f b ⌝ }
+{
+    first_number_of(14, g, f, b)
+}
+
+fn number(n: u32, g: Filters, f: Fifo, b: Bank, j: u32) -> FilterNumber
+    requires { ⌜ (n ≤ 28) × (j < 4) ⌝ }
+    ensures { λ r. ⌜ r ≡ banks.filterNumber (banks.firstNumber n g f b .0 + j) ⌝ }
+{
+    let first = first_number_of(n, g, f, b);
+    let number = first.0 + j;
+    FilterNumber(number)
+}
+
+// ---- the search of one class in one FIFO
+
+// The word with a 1 for each bank of the class.
+fn of_class(g: Filters, k: FilterClass) -> u32
+    ensures { λ r. ⌜ ((i : ℕ) → i < 32 → base.bit i r ≡ eqb (banks.rank (banks.classOf g i)) (banks.rank k)) ⌝ }
+{
+    match k {
+        FilterClass::List32 => g.scale & g.mode,
+        FilterClass::Mask32 => g.scale & !g.mode,
+        FilterClass::List16 => !g.scale & g.mode,
+        FilterClass::Mask16 => !g.scale & !g.mode,
+    }
+}
+
+// The word with a 1 for each bank that is searched; made once, so that the search passes the others by one test of a bit.
+fn searched(g: Filters, k: FilterClass, f: Fifo) -> u32
+    ensures { λ r. ⌜ ((i : ℕ) → i < 32 → base.bit i r ≡ search.searched g k f i) ⌝ }
+{
+    g.activation & (own(f, g) & of_class(g, k))
+}
+
+// How many filters of a bank are looked at: none where the bank has no part in the search.
+fn tried(k: FilterClass, part: u32, b: Bank) -> u32
+    ensures { λ r. ⌜ r ≡ base.pick (base.bit (b .0) part) (banks.width k) 0 ⌝ }
+{
+    pick_u32(bit(b.0, part), width(k), 0)
+}
+
+// The matching filter with the lowest number.
+fn first_hit(n: u32, g: Filters, banks: &[u32; 28], w: u32, k: FilterClass, f: Fifo) -> Hit
+    requires { ⌜ n ≤ 14 ⌝ }
+    ensures { λ r. ⌜ r ≡ search.firstHit n g (now (banks .entry)) w k f ⌝ }
+{
+    let part = searched(g, k, f);
+    let mut i: u32 = 0;
+    'search: loop {
+        if n <= i {
+            break Hit::Nothing;
+        }
+        let m = tried(k, part, Bank(i));
+        let a = banks[(2 * i) as usize];
+        let b = banks[(2 * i + 1) as usize];
+        let mut j: u32 = 0;
+        while j < m {
+            if matches(k, a, b, j, w) {
+                break 'search Hit::Filter(number(n, g, f, Bank(i), j));
+            }
+            j += 1;
+        }
+        i += 1;
+    }
+}
+
+// ---- the winner
+
+// The lower filter number, FIFO 0 where they are equal.
+fn better(a: Hit, b: Hit) -> Acceptance
+    ensures { λ r. ⌜ r ≡ search.better a b ⌝ }
+{
+    match a {
+        Hit::Filter(x) => match b {
+            Hit::Filter(y) => {
+                if y.0 < x.0 {
+                    return Acceptance::Into(Fifo::F1, y);
+                }
+                Acceptance::Into(Fifo::F0, x)
+            }
+            Hit::Nothing => Acceptance::Into(Fifo::F0, x),
+        },
+        Hit::Nothing => match b {
+            Hit::Filter(y) => Acceptance::Into(Fifo::F1, y),
+            Hit::Nothing => Acceptance::Rejected,
+        },
+    }
+}
+
+fn best_of(n: u32, g: Filters, banks: &[u32; 28], w: u32, k: FilterClass) -> Acceptance
+    requires { ⌜ n ≤ 14 ⌝ }
+    ensures { λ r. ⌜ r ≡ search.better (search.firstHit n g (now (banks .entry)) w k Fifo.F0) (search.firstHit n g (now (banks .entry)) w k Fifo.F1) ⌝ }
+{
+    better(
+        first_hit(n, g, banks, w, k, Fifo::F0),
+        first_hit(n, g, banks, w, k, Fifo::F1),
+    )
+}
+
+// Of n banks: the first class that has a match wins, 32-bit before 16, list before mask.
+fn acceptance_of(n: u32, g: Filters, banks: &[u32; 28], w: u32) -> Acceptance
+    requires { ⌜ n ≤ 14 ⌝ }
+    ensures { λ r. ⌜ r ≡ search.acceptance n g (now (banks .entry)) w ⌝ }
+{
+    if let Acceptance::Into(f, x) = best_of(n, g, banks, w, FilterClass::List32) {
+        return Acceptance::Into(f, x);
+    }
+    if let Acceptance::Into(f, x) = best_of(n, g, banks, w, FilterClass::Mask32) {
+        return Acceptance::Into(f, x);
+    }
+    if let Acceptance::Into(f, x) = best_of(n, g, banks, w, FilterClass::List16) {
+        return Acceptance::Into(f, x);
+    }
+    best_of(n, g, banks, w, FilterClass::Mask16)
+}
+
+// The FIFO that a frame goes to, and the filter that it passes.
+pub fn acceptance(g: Filters, banks: &[u32; 28], w: u32) -> Acceptance
+    ensures { λ r. ⌜ r ≡ search.acceptance 14 g (now (banks .entry)) w ⌝ }
+{
+    acceptance_of(14, g, banks, w)
+}
