@@ -15,7 +15,7 @@ use Rattle.model.specs.Control as control
 use Rattle.model.specs.Registers.{registerAt, reset, coreReset, written, writeRefusal, isFree, hasRequest, withControl, withTransmit, isAbsent}
 use Rattle.model.specs.Step.{step, answered, coreAfter, refusal, wordOf, applied, settled, storedBy, startedBy, endedBy, mayStart, mayEnd, mayReceive, faultInRange}
 use Rattle.model.specs.Reachable.{carried}
-use Rattle.model.specs.Requests.{Event, nothing, drops, modes, accepts, aborts, starts, ends, writeEvent, stepEvent, event, entry}
+use Rattle.model.specs.Requests.{Event, nothing, drops, modes, accepts, aborts, starts, ends, writeEvent, stepEvent, startWord, event, entry}
 use Rattle.model.specs.declared.Mailbox.{Mailbox}
 use Rattle.model.specs.declared.Mailbox.the-variants.{M0, M1, M2}
 use Rattle.model.specs.declared.Sender.{Sender}
@@ -263,7 +263,7 @@ pub may-end : (c : Core) (r : ℕ) → Is (mayEnd c r) → Is (not (isFree c))
 unfolding mayEnd
 may-end c r h = and-l (not (isFree c)) (not (eqb r 3 && lbkm (c .control))) h
 
-applied-does : (c : Core) (b : List ℕ) (s : steps.Step) → eqb (refusal c s) 0 ≡ true → Does c (applied c b s) (stepEvent s (wordOf c b s))
+applied-does : (c : Core) (b : List ℕ) (s : steps.Step) → eqb (refusal c s) 0 ≡ true → Does c (applied c b s) (stepEvent s (startWord s (wordOf c b s)))
 unfolding applied refusal wordOf idled entered counted ticked noticed storedBy
 applied-does c b Reset h = reset-does c
 applied-does c b (Read o) h = still c c refl
@@ -283,4 +283,4 @@ by-code false c d say w h = record { view = refl; granted = tt }
 
 pub follows : (z : Controller) (s : steps.Step) → Does (z .core) (step z s .controller .core) (event (entry s (step z s)))
 unfolding step answered coreAfter
-follows z s = by-code (eqb (refusal (z .core) s) 0) (z .core) (applied (z .core) (z .banks) s) (stepEvent s) (wordOf (z .core) (z .banks) s) (λ h. applied-does (z .core) (z .banks) s h)
+follows z s = by-code (eqb (refusal (z .core) s) 0) (z .core) (applied (z .core) (z .banks) s) (λ w. stepEvent s (startWord s w)) (wordOf (z .core) (z .banks) s) (λ h. applied-does (z .core) (z .banks) s h)

@@ -92,6 +92,14 @@ unfolding entryRounds observed everything
 stays-by-identifier zero = refl
 stays-by-identifier (suc n) = stays-by-identifier n
 
+abbrev isKept : Moment → Bool
+isKept x = not (isDrop (x .event))
+
+stays-kept : (n : ℕ) → every isKept (meanwhile M0 asked (entryRounds n)) ≡ true
+unfolding entryRounds observed everything
+stays-kept zero = refl
+stays-kept (suc n) = stays-kept n
+
 others-end-well : (n : ℕ) → count (otherWell M0) (meanwhile M0 asked (entryRounds n)) ≡ n
 unfolding entryRounds observed everything
 others-end-well zero = refl
@@ -115,6 +123,7 @@ starvation n = record {
   rest = rounds n;
   accepted = request-accepted;
   byIdentifier = rw (requests-then, rounds-entries n) (stays-by-identifier n);
+  kept = rw (requests-then, rounds-entries n) (stays-kept n);
   others = rw (requests-then, rounds-entries n) (others-end-well n);
   waits = rw (requests-then, rounds-entries n) (has-not-ended n);
   stillOutstanding = rw (requests-then, rounds-entries n) (still-outstanding n);
@@ -122,7 +131,7 @@ starvation n = record {
 
 -- ---- demand 3 is not empty
 
--- three requests under request order, of which two end well while the third waits
+-- three requests under request order, of which two end well while the third waits; then it ends too
 pub two-others : TwoOthers
 unfolding observed everything
 two-others = record {
@@ -133,6 +142,11 @@ two-others = record {
   accepted = refl;
   ordered = refl;
   two = refl;
+  good = refl;
+  waits = refl;
+  more = Start ∷ Outcome 0 ∷ [];
+  third = refl;
+  ended = refl;
 }
 
 -- a request that a reset drops has not ended: once it has not ended when the reset comes, it never ends

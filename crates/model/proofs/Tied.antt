@@ -13,9 +13,10 @@ use Rattle.model.specs.Step.{step, answered, refusal, wordOf}
 use Rattle.model.specs.Requests.{after}
 use Rattle.model.specs.Reachable.{InRange, StepRange, StepsRange}
 use Rattle.model.specs.Codes.{fifoNumber}
-use Rattle.model.specs.History.{ErrorCounts, countsNext, countsFrom, frames, errorCounts, readAfter, oldestRi, Tied}
+use Rattle.model.specs.History.{ErrorCounts, countsNext, countsFrom, frames, errorCounts, readAfter, oldestFrame, Tied}
 use Rattle.model.specs.declared.Fifo.{Fifo}
 use Rattle.model.specs.declared.Fifo.the-variants.{F0, F1}
+use Rattle.model.specs.declared.StoredFrame.{StoredFrame}
 use Rattle.model.specs.declared.Controller.{Controller}
 use Rattle.model.specs.declared.Step as steps
 use Rattle.model.specs.declared.Step.the-variants.{Read}
@@ -41,10 +42,16 @@ unfolding step answered refusal wordOf registerAt controlRegister readWord
 rfr-read F0 z = refl
 rfr-read F1 z = refl
 
-ri-read : (f : Fifo) (z : Controller) → step z (Read (0x1B0 + 0x10 * fifoNumber f)) .word ≡ output (fifoOf f (z .core)) .ri
+record OutputRead (f : Fifo) (z : Controller) : Type 0 where
+  ri : step z (Read (0x1B0 + 0x10 * fifoNumber f)) .word ≡ output (fifoOf f (z .core)) .ri
+  rdt : step z (Read (0x1B4 + 0x10 * fifoNumber f)) .word ≡ output (fifoOf f (z .core)) .rdt
+  rdl : step z (Read (0x1B8 + 0x10 * fifoNumber f)) .word ≡ output (fifoOf f (z .core)) .rdl
+  rdh : step z (Read (0x1BC + 0x10 * fifoNumber f)) .word ≡ output (fifoOf f (z .core)) .rdh
+
+output-words : (f : Fifo) (z : Controller) → OutputRead f z
 unfolding step answered refusal wordOf registerAt blockRegister outputRegister readWord
-ri-read F0 z = refl
-ri-read F1 z = refl
+output-words F0 z = record { ri = refl; rdt = refl; rdl = refl; rdh = refl }
+output-words F1 z = record { ri = refl; rdt = refl; rdl = refl; rdh = refl }
 
 esr-read : (z : Controller) → step z (Read 0x018) .word ≡ esrWord (z .core .errors)
 unfolding step answered refusal wordOf registerAt controlRegister readWord
@@ -56,10 +63,14 @@ tied l h =
     let i : InRange z = reachable l h in
     let c : stored z ≡ errorCounts l = run-counts l reset reset-in-range h ∙ ap (λ (a : ErrorCounts). countsFrom a reset l) reset-counts in
     let t : z .core .errors .tec ≡ errorCounts l .tec = ap (λ (a : ErrorCounts). a .tec) c in
+    let o : (f : Fifo) → output (fifoOf f (z .core)) ≡ oldestFrame (frames f l) = λ f. output-read (fifoOf f (z .core)) (frames f l) (holds-after f [] reset l (holds-reset f)) in
     let r = tec-read (z .core .errors) (i .core .errors .lec) (i .core .errors .rec) in
     record {
       fmp = λ f. ap (λ (w : ℕ). bits 0 2 w) (rfr-read f z) ∙ fmp-read (fifoOf f (z .core)) (frames f l) (holds-after f [] reset l (holds-reset f));
-      output = λ f. ri-read f z ∙ output-read (fifoOf f (z .core)) (frames f l) (holds-after f [] reset l (holds-reset f));
+      ri = λ f. output-words f z .ri ∙ ap (λ (x : StoredFrame). x .ri) (o f);
+      rdt = λ f. output-words f z .rdt ∙ ap (λ (x : StoredFrame). x .rdt) (o f);
+      rdl = λ f. output-words f z .rdl ∙ ap (λ (x : StoredFrame). x .rdl) (o f);
+      rdh = λ f. output-words f z .rdh ∙ ap (λ (x : StoredFrame). x .rdh) (o f);
       tec = t;
       tecField = ap (λ (w : ℕ). bits 16 8 w) (esr-read z) ∙ (r .0 ∙ ap (λ (n : ℕ). n % 256) t);
       boff = ap (λ (w : ℕ). bit 2 w) (esr-read z) ∙ (r .1 ∙ ap (λ (n : ℕ). ltb 255 n) t);

@@ -14,7 +14,7 @@ use Rattle.model.specs.Control.{rflm}
 use Rattle.model.specs.Registers.{registerAt, bankCount, reset, coreReset, written, fifoOf, withControl}
 use Rattle.model.specs.Step.{step, answered, coreAfter, refusal, applied, settled, storedBy, startedBy, endedBy, loopedBack}
 use Rattle.model.specs.Codes.{fifoNumber}
-use Rattle.model.specs.History.{Traffic, none, empties, releases, arrives, writeTraffic, endTraffic, stepTraffic, traffic, isDone, waitingNext, waitingFrom, oldestRi}
+use Rattle.model.specs.History.{Traffic, none, empties, releases, arrives, writeTraffic, endTraffic, stepTraffic, traffic, isDone, waitingNext, waitingFrom, oldestFrame}
 use Rattle.model.specs.Requests.{after}
 use Rattle.model.specs.declared.Sender.{Sender}
 use Rattle.model.specs.declared.Sender.the-variants.{Nobody, From}
@@ -204,7 +204,7 @@ fmp-read q l (one-frame e) = fmp-word q 1 e (omega arith)
 fmp-read q l (two-frames e) = fmp-word q 2 e (omega arith)
 fmp-read q l (three-frames e) = fmp-word q 3 e (omega arith)
 
-pub output-read : (q : FifoState) (l : List StoredFrame) → Holds q l → output q .ri ≡ oldestRi l
+pub output-read : (q : FifoState) (l : List StoredFrame) → Holds q l → output q ≡ oldestFrame l
 unfolding output
 output-read q l (no-frame e) = rw e
 output-read q l (one-frame e) = rw e

@@ -95,7 +95,7 @@ abbrev pub belongs : Fifo → Filters → ℕ → Bool
 belongs F0 g i = not (bit i (g .assignment))
 belongs F1 g i = bit i (g .assignment)
 
--- the word with a 1 for each bank of the FIFO
+-- the word with a 1 for each bank of the FIFO; for FIFO 0 the bits past the last bank are 1 too
 abbrev pub own : Fifo → Filters → ℕ
 own F0 g = (2 ^ 32 - 1) - g .assignment
 own F1 g = g .assignment
@@ -104,6 +104,7 @@ own F1 g = g .assignment
 abbrev pub share : Fifo → Filters → ℕ → ℕ
 share f g i = pick (belongs f g i) (width (classOf g i)) 0
 
--- the number of a bank's first filter, of n banks: each FIFO numbers its own banks' filters upward from 0
+-- the number of a bank's first filter, of n banks: each FIFO numbers its own banks' filters upward from 0. (For a bank of the
+-- other FIFO or past the last one it is the next free number.)
 unfoldable pub firstNumber : ℕ → Filters → Fifo → Bank → FilterNumber
 firstNumber n g f b = filterNumber (sum (share f g) (pick (ltb (b .0) n) (b .0) n))

@@ -24,7 +24,7 @@ pub record Moment : Type 0 where
   pub requests : Requests
   pub event : Event
 
--- what comes while the request of mailbox m is outstanding: up to its end, or to the end of the list
+-- what comes while the request of mailbox m is outstanding: up to its end, to a reset that drops it, or to the end of the list
 unfoldable pub meanwhile : Mailbox → Requests → List Entry → List Moment
 meanwhile m b [] = []
 meanwhile m b (e ∷ l) = pick (flag (b .outstanding) m) (record { requests = b; event = event e } ∷ meanwhile m (next b (event e)) l) []
@@ -122,7 +122,8 @@ pub record Fairness (l : List steps.Step) : Type 0 where
       → every underRequestOrder (meanwhile m (requestsAt (before ++ s ∷ [])) (entriesFrom (before ++ s ∷ []) rest)) ≡ true
       → Served m (requestsAt (before ++ s ∷ [])) (entriesFrom (before ++ s ∷ []) rest)
 
--- demand 3 is not empty: a request under request order of which exactly two others end on the wire meanwhile
+-- demand 3 is not empty, and its numbers are reached: a request under request order while which exactly two others end on
+-- the wire; after those two good ends it still waits, and after a third it has ended
 pub record TwoOthers : Type 0 where
   pub before : List steps.Step
   pub request : steps.Step
@@ -131,6 +132,11 @@ pub record TwoOthers : Type 0 where
   pub accepted : event (entry request (step (after reset before) request)) ≡ accepts mailbox
   pub ordered : every underRequestOrder (meanwhile mailbox (requestsAt (before ++ request ∷ [])) (entriesFrom (before ++ request ∷ []) rest)) ≡ true
   pub two : count (otherEnds mailbox) (meanwhile mailbox (requestsAt (before ++ request ∷ [])) (entriesFrom (before ++ request ∷ []) rest)) ≡ 2
+  pub good : count endsWell (entriesFrom (before ++ request ∷ []) rest) ≡ 2
+  pub waits : hasEnded mailbox (requestsAt (before ++ request ∷ [])) (entriesFrom (before ++ request ∷ []) rest) ≡ false
+  pub more : List steps.Step
+  pub third : count endsWell (entriesFrom (before ++ request ∷ []) (rest ++ more)) ≡ 3
+  pub ended : hasEnded mailbox (requestsAt (before ++ request ∷ [])) (entriesFrom (before ++ request ∷ []) (rest ++ more)) ≡ true
 
 -- ---- lowest-identifier order
 
@@ -138,13 +144,15 @@ pub record TwoOthers : Type 0 where
 abbrev pub otherWell : Mailbox → Moment → Bool
 otherWell m x = otherEnds m x && isGood (x .event)
 
--- a history in which a request of mailbox 0 still waits though n others have ended well since its acceptance, TXFP being 0
+-- a history in which a request of mailbox 0 still waits though n others have ended well since its acceptance, TXFP being 0:
+-- no reset has dropped it, it has not ended, and it is outstanding
 pub record Starvation (n : ℕ) : Type 0 where
   pub before : List steps.Step
   pub request : steps.Step
   pub rest : List steps.Step
   pub accepted : event (entry request (step (after reset before) request)) ≡ accepts M0
   pub byIdentifier : every (λ (x : Moment). not (x .requests .txfp)) (meanwhile M0 (requestsAt (before ++ request ∷ [])) (entriesFrom (before ++ request ∷ []) rest)) ≡ true
+  pub kept : every (λ (x : Moment). not (isDrop (x .event))) (meanwhile M0 (requestsAt (before ++ request ∷ [])) (entriesFrom (before ++ request ∷ []) rest)) ≡ true
   pub others : count (otherWell M0) (meanwhile M0 (requestsAt (before ++ request ∷ [])) (entriesFrom (before ++ request ∷ []) rest)) ≡ n
   pub waits : hasEnded M0 (requestsAt (before ++ request ∷ [])) (entriesFrom (before ++ request ∷ []) rest) ≡ false
   pub stillOutstanding : flag (requestsAfter (requestsAt (before ++ request ∷ [])) (entriesFrom (before ++ request ∷ []) rest) .outstanding) M0 ≡ true

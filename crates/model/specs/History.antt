@@ -9,7 +9,7 @@ use lib.ListN.{length, take}
 use Rattle.model.specs.Base.{pick, bit, bits}
 use Rattle.model.specs.Mailboxes.{at}
 use Rattle.model.specs.Search.{acceptance}
-use Rattle.model.specs.Reception.{storedFrame, sentFrame, goesInto, fmiOf}
+use Rattle.model.specs.Reception.{noFrame, storedFrame, sentFrame, goesInto, fmiOf}
 use Rattle.model.specs.Control.{rflm, abom, isInitialization, isNormal}
 use Rattle.model.specs.Registers.{registerAt, bankCount, reset}
 use Rattle.model.specs.Step.{step, refusal, loopedBack}
@@ -110,9 +110,10 @@ unfoldable pub waitingFrom : Fifo → List StoredFrame → Controller → List s
 waitingFrom f l z [] = l
 waitingFrom f l z (s ∷ r) = waitingFrom f (waitingNext l (traffic f z s)) (step z s .controller) r
 
-abbrev pub oldestRi : List StoredFrame → ℕ
-oldestRi [] = 0
-oldestRi (x ∷ l) = x .ri
+-- what the output shows: the oldest frame, zeros where none waits
+abbrev pub oldestFrame : List StoredFrame → StoredFrame
+oldestFrame [] = noFrame
+oldestFrame (x ∷ l) = x
 
 -- ---- TEC and the recovery count
 
@@ -222,9 +223,12 @@ abbrev pub readAfter : List steps.Step → ℕ → ℕ
 readAfter l o = step (after reset l) (Read o) .word
 
 pub record Tied (l : List steps.Step) : Type 0 where
-  -- FMP is the number of frames that wait, and RI is of the oldest
+  -- FMP is the number of frames that wait, and the output is the oldest
   pub fmp : (f : Fifo) → bits 0 2 (readAfter l (0x00C + 4 * fifoNumber f)) ≡ length (frames f l)
-  pub output : (f : Fifo) → readAfter l (0x1B0 + 0x10 * fifoNumber f) ≡ oldestRi (frames f l)
+  pub ri : (f : Fifo) → readAfter l (0x1B0 + 0x10 * fifoNumber f) ≡ oldestFrame (frames f l) .ri
+  pub rdt : (f : Fifo) → readAfter l (0x1B4 + 0x10 * fifoNumber f) ≡ oldestFrame (frames f l) .rdt
+  pub rdl : (f : Fifo) → readAfter l (0x1B8 + 0x10 * fifoNumber f) ≡ oldestFrame (frames f l) .rdl
+  pub rdh : (f : Fifo) → readAfter l (0x1BC + 0x10 * fifoNumber f) ≡ oldestFrame (frames f l) .rdh
   -- TEC, in ESR its low byte and BOFF, and the recovery count, are what the events say
   pub tec : after reset l .core .errors .tec ≡ errorCounts l .tec
   pub tecField : bits 16 8 (readAfter l 0x018) ≡ errorCounts l .tec % 256

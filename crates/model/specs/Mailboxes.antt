@@ -110,8 +110,8 @@ dropped t = record { mailboxes = t .mailboxes; queue = noRequests }
 unfoldable pub sentIdentifier : ℕ → ℕ
 sentIdentifier ti = pick (bit 2 ti) ti (ti / 2 ^ 21 * 2 ^ 21 + bits 1 1 ti * 2)
 
--- the bits on the wire, the lower first: the top 11, then standard data, standard remote, extended, then the low 18,
--- then data before remote
+-- a number that orders identifier words as the bits on the wire do, the lower going first: the top 11 bits, then standard
+-- data, standard remote, extended, then the low 18, then data before remote
 unfoldable pub wireKey : ℕ → ℕ
 wireKey ti =
     pick (bit 2 ti)
@@ -191,9 +191,9 @@ tsr txfp t =
     + one (tme t M0) * 2 ^ 26 + one (tme t M1) * 2 ^ 27 + one (tme t M2) * 2 ^ 28
     + one (low txfp t M0) * 2 ^ 29 + one (low txfp t M1) * 2 ^ 30 + one (low txfp t M2) * 2 ^ 31
 
--- TXRQ reads 1 while the mailbox is not empty
+-- TXRQ, bit 0, reads 1 while the mailbox is not empty
 unfoldable pub tiWord : Transmit → Mailbox → ℕ
-tiWord t m = at (t .mailboxes) m .ti + one (holds (t .queue .order) m)
+tiWord t m = at (t .mailboxes) m .ti / 2 * 2 + one (holds (t .queue .order) m)
 
 -- ---- events ("Bus events")
 

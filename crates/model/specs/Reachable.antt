@@ -1,4 +1,4 @@
--- The states that steps reach from hardware reset: what each field is then.
+-- What holds of every state that steps reach from hardware reset: the range of each field, and how fields go together.
 -- Each word holds only the bits that its mask lets through.
 use mathlib.Core.Bool.{Bool, true, false, not, _&&_}
 use mathlib.Core.List.{List, [], _∷_}

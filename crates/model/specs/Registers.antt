@@ -147,7 +147,7 @@ reset = record {
     fifo1 = emptyFifo;
     filters = filterReset;
   };
-  banks = replicate 28 0;
+  banks = replicate (2 * bankCount) 0;
 }
 
 -- MCR with bit 15 set

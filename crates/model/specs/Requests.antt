@@ -21,12 +21,25 @@ use Rattle.model.specs.declared.Register.the-variants.{Mcr, Msr, Tsr, Rf
 use Rattle.model.specs.declared.Step as steps
 use Rattle.model.specs.declared.Step.the-variants.{Reset, Read, Write, Idle, BitTimes, Activity, Start, Outcome, Receive, ReceiveError}
 
--- ---- what the observer is fed
+-- ---- what the observer is fed: a step, its code, and a start's word
 
 pub record Entry : Type 0 where
   pub step : steps.Step
   pub code : ℕ
   pub word : ℕ
+
+-- of any other step the observer is not told the word
+abbrev pub startWord : steps.Step → ℕ → ℕ
+startWord Reset w = 0
+startWord (Read o) w = 0
+startWord (Write o v) w = 0
+startWord Idle w = 0
+startWord (BitTimes n) w = 0
+startWord Activity w = 0
+startWord Start w = w
+startWord (Outcome r) w = 0
+startWord (Receive x) w = 0
+startWord (ReceiveError k n) w = 0
 
 -- ---- what a step with code 0 means to the requests
 
@@ -129,7 +142,7 @@ next b (ends good) = endSeen (b .transmitting) b good
 -- ---- lists of steps
 
 abbrev pub entry : steps.Step → Stepped → Entry
-entry s a = record { step = s; code = a .code; word = a .word }
+entry s a = record { step = s; code = a .code; word = startWord s (a .word) }
 
 -- the controller after a list of steps
 unfoldable pub after : Controller → List steps.Step → Controller

@@ -129,7 +129,7 @@ begun z = record {
   replies = [];
 }
 
--- one record more; `records` counts those that were read and done
+-- one record more; `records` counts those that gave a step
 unfoldable pub afterRecord : Progress → Replayed → Progress
 afterRecord x r = record {
   result = record {

@@ -106,7 +106,7 @@ endedBy (From m) c v r =
     (outcomeErrors (c .errors) r))
     (ended (c .transmit) m r (nart (c .control)))
 
--- the state after an accepted step, before the mode rule
+-- the state after an accepted step, before the mode rule that follows every accepted step
 unfoldable pub applied : Core → List ℕ → steps.Step → Core
 applied c v Reset = reset .core
 applied c v (Read o) = c

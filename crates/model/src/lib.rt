@@ -94,7 +94,7 @@ pub struct FifoState {
     pub fovr: bool,
 }
 
-// A frame that comes from the bus: identifier word as in RI, data bytes 0 to 3 and 4 to 7, length code.
+// A frame on the bus: identifier word as in RI, data bytes 0 to 3 and 4 to 7, length code.
 pub struct Frame {
     pub identifier: u32,
     pub low: u32,
@@ -169,7 +169,7 @@ pub struct Errors {
     pub lec: u8,
 }
 
-// All that events change.
+// All but the banks' words, which no event changes.
 pub struct Core {
     pub control: Control,
     pub errors: Errors,
@@ -214,7 +214,7 @@ pub enum Register {
     Absent,
 }
 
-// A hardware reset, a register access or a bus event.
+// A hardware reset, a register access or a bus event. `Outcome` is what document 01 calls an own end.
 pub enum Step {
     Reset,
     Read(u16),
@@ -262,7 +262,7 @@ pub struct Replayed {
     pub word: u32,
 }
 
-// What a whole script gives: the last controller, the place where the replay stopped, how many records were read and done,
+// What a whole script gives: the last controller, the place where the replay stopped, how many records gave a step,
 // how many bytes of replies were written, and the last answer.
 pub struct Replay {
     pub controller: Controller,

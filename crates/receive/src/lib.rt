@@ -175,7 +175,7 @@ pub fn goes_into(f: Fifo, a: Acceptance) -> bool
     }
 }
 
-pub fn fmi_of(a: Acceptance) -> u32
+pub fn fmi_of(a: Acceptance) -> u8
     ensures { λ r. ⌜ r ≡ reception.fmiOf a ⌝ }
 {
     match a {
