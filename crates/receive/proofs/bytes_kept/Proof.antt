@@ -16,8 +16,8 @@ unfolding bytesKept
 returns c = simp (le-leb _ _ (c .if1 .taken))
 
 -- src/lib.rt:43:16
-mul-bits : tie.Need-mul-bits
-mul-bits c = search needs
+mul-width : tie.Need-mul-width
+mul-width c = search needs
 
 -- src/lib.rt:44:10
 shl-result : tie.Need-shl-result
@@ -33,4 +33,4 @@ unfolding bytesKept
 returns-2 c = simp (one-shifted (8 * c .before .args .n) (omega arith), lt-leb _ _ (c .if1 .left))
 
 pub bytes-kept-spec : {M : Type 1} → statement M
-bytes-kept-spec = tie.close (tie.spec returns mul-bits shl-result rem-result returns-2)
+bytes-kept-spec = tie.close (tie.spec returns mul-width shl-result rem-result returns-2)

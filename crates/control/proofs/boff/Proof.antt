@@ -1,0 +1,12 @@
+use mathlib.Core.Path.{refl}
+use Rattle.control.proofs.boff.Statement.{statement}
+use Rattle.control.proofs.boff.Tie as tie
+use Rattle.control.proofs.boff.Reads as reads
+use Rattle.control.proofs.boff.Lts as lts
+
+-- src/lib.rt:129:1
+returns : tie.Need-returns
+returns c = refl
+
+pub boff-spec : {M : Type 1} → statement M
+boff-spec = tie.close (tie.spec returns)
