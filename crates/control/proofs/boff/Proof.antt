@@ -4,7 +4,6 @@ use Rattle.control.proofs.boff.Tie as tie
 use Rattle.control.proofs.boff.Reads as reads
 use Rattle.control.proofs.boff.Lts as lts
 
--- src/lib.rt:129:1
 returns : tie.Need-returns
 returns c = refl
 
