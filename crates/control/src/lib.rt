@@ -166,7 +166,7 @@ pub fn mode_next(m: Mode, init: bool, slp: bool) -> Mode
 }
 
 // Field by field: copied whole, small neighbouring fields are packed into one word and taken apart again.
-fn same_control(k: Control) -> Control
+pub fn same_control(k: Control) -> Control
     ensures { λ r. ⌜ r ≡ k ⌝ }
 {
     let mode = k.mode;

@@ -40,8 +40,8 @@ pub fn bytes_kept(n: u8, w: u32) -> u32
     if 4 <= n {
         return w;
     }
-    let bits = 8 * (n as u32);
-    w % (1 << bits)
+    let width = 8 * (n as u32);
+    w % (1 << width)
 }
 
 fn past_four(n: u8) -> u8
@@ -53,7 +53,7 @@ fn past_four(n: u8) -> u8
     n - 4
 }
 
-// A filter number of a byte, so that RDT is a word for every argument.
+// FMI is a byte here, so that RDT fits a word whatever the arguments.
 pub fn stored_frame(x: Frame, fmi: u8, time: u16) -> StoredFrame
     ensures { λ r. ⌜ r ≡ reception.storedFrame x fmi time ⌝ }
 {

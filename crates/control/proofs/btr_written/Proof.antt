@@ -6,35 +6,27 @@ use Rattle.control.proofs.btr_written.Reads as reads
 use Rattle.control.proofs.btr_written.Lts as lts
 use Rattle.control.proofs.same_control.Reads as same-control-reads
 
--- src/lib.rt:297:13
 mul-d : tie.Need-mul-d
 mul-d c = search needs
 
--- src/lib.rt:298:11
 mul-d-2 : tie.Need-mul-d-2
 mul-d-2 c = search needs
 
--- src/lib.rt:297:13
 add-d : tie.Need-add-d
 add-d c = search needs
 
--- src/lib.rt:299:11
 mul-d-3 : tie.Need-mul-d-3
 mul-d-3 c = search needs
 
--- src/lib.rt:297:13
 add-d-2 : tie.Need-add-d-2
 add-d-2 c = search needs
 
--- src/lib.rt:297:13
 add-d-3 : tie.Need-add-d-3
 add-d-3 c = search needs
 
--- src/lib.rt:301:5
 same-control-requires : tie.Need-same-control-requires
 same-control-requires c κs = search needs
 
--- src/lib.rt:293:1
 returns : tie.Need-returns
 unfolding btrWritten
 returns c = simp (c .same-control .ensures)

@@ -5,7 +5,6 @@ use Rattle.control.proofs.control_reset.Tie as tie
 use Rattle.control.proofs.control_reset.Reads as reads
 use Rattle.control.proofs.control_reset.Lts as lts
 
--- src/lib.rt:230:1
 returns : tie.Need-returns
 unfolding controlReset
 returns c = refl

@@ -10,31 +10,24 @@ use Rattle.control.proofs.recovers.Reads as recovers-reads
 use Rattle.control.proofs.same_control.Reads as same-control-reads
 use Rattle.std.proofs.num.wrapping_add_u8.Reads as wrapping-add-u8-reads
 
--- src/lib.rt:363:9
 recovers-requires : tie.Need-recovers-requires
 recovers-requires c κs = search needs
 
--- src/lib.rt:364:9
 wrapping-add-u8-requires : tie.Need-wrapping-add-u8-requires
 wrapping-add-u8-requires c κs = search needs
 
--- src/lib.rt:366:43
 counts-requires : tie.Need-counts-requires
 counts-requires c κs = search needs
 
--- src/lib.rt:366:35
 pick-u8-requires : tie.Need-pick-u8-requires
 pick-u8-requires c κs = search needs
 
--- src/lib.rt:366:5
 pick-u8-requires-2 : tie.Need-pick-u8-requires-2
 pick-u8-requires-2 c κs = search needs
 
--- src/lib.rt:368:5
 same-control-requires : tie.Need-same-control-requires
 same-control-requires c κs = search needs
 
--- src/lib.rt:360:1
 returns : tie.Need-returns
 unfolding counted
 returns c = simp (c .same-control .ensures, c .before .before .pick-u82 .ensures, c .before .before .before .pick-u8 .ensures, c .before .before .before .before .counts .ensures, c .before .before .before .before .before .wrapping-add-u8 .ensures, c .before .before .before .before .before .before .recovers .ensures)

@@ -8,19 +8,15 @@ use Rattle.control.proofs.abom.Reads as abom-reads
 use Rattle.control.proofs.boff.Reads as boff-reads
 use Rattle.control.proofs.is_normal.Reads as is-normal-reads
 
--- src/lib.rt:351:5
 boff-requires : tie.Need-boff-requires
 boff-requires c κs = search needs
 
--- src/lib.rt:351:15
 is-normal-requires : tie.Need-is-normal-requires
 is-normal-requires c κs = search needs
 
--- src/lib.rt:351:31
 abom-requires : tie.Need-abom-requires
 abom-requires c κs = search needs
 
--- src/lib.rt:347:1
 returns : tie.Need-returns
 unfolding counts
 returns c = simp (c .before .abom .ensures, c .before .before .is-normal .ensures, c .before .before .before .boff .ensures)

@@ -10,35 +10,27 @@ use Rattle.bits.proofs.pick_u8.Reads as pick-u8-reads
 use Rattle.control.proofs.is_initialization.Reads as is-initialization-reads
 use Rattle.control.proofs.is_sleep.Reads as is-sleep-reads
 
--- src/lib.rt:191:9
 is-sleep-requires : tie.Need-is-sleep-requires
 is-sleep-requires c κs = search needs
 
--- src/lib.rt:192:18
 is-initialization-requires : tie.Need-is-initialization-requires
 is-initialization-requires c κs = search needs
 
--- src/lib.rt:192:42
 is-initialization-requires-2 : tie.Need-is-initialization-requires-2
 is-initialization-requires-2 c κs = search needs
 
--- src/lib.rt:194:9
 is-sleep-requires-2 : tie.Need-is-sleep-requires-2
 is-sleep-requires-2 c κs = search needs
 
--- src/lib.rt:195:29
 bit-requires : tie.Need-bit-requires
 bit-requires c κs = search needs
 
--- src/lib.rt:193:9
 pick-bool-requires : tie.Need-pick-bool-requires
 pick-bool-requires c κs = search needs
 
--- src/lib.rt:204:19
 pick-u8-requires : tie.Need-pick-u8-requires
 pick-u8-requires c κs = search needs
 
--- src/lib.rt:187:1
 returns : tie.Need-returns
 unfolding entered
 returns c = simp (c .before .pick-u8 .ensures, c .before .before .pick-bool .ensures, c .before .before .before .before .before .bit .ensures, c .before .before .before .before .before .before .is-sleep2 .ensures, c .before .before .before .before .before .before .before .is-initialization2 .ensures, c .before .before .before .before .before .before .before .before .is-initialization .ensures, c .before .before .before .before .before .before .before .before .before .is-sleep .ensures)

@@ -6,11 +6,9 @@ use Rattle.control.proofs.esr_written.Reads as reads
 use Rattle.control.proofs.esr_written.Lts as lts
 use Rattle.bits.proofs.pick_u8.Reads as pick-u8-reads
 
--- src/lib.rt:310:14
 pick-u8-requires : tie.Need-pick-u8-requires
 pick-u8-requires c κs = search needs
 
--- src/lib.rt:304:1
 returns : tie.Need-returns
 unfolding esrWritten
 returns c = simp (c .pick-u8 .ensures)

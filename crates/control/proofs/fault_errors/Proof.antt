@@ -6,11 +6,9 @@ use Rattle.control.proofs.fault_errors.Reads as reads
 use Rattle.control.proofs.fault_errors.Lts as lts
 use Rattle.control.proofs.rec_plus.Reads as rec-plus-reads
 
--- src/lib.rt:489:14
 rec-plus-requires : tie.Need-rec-plus-requires
 rec-plus-requires c κs = search needs
 
--- src/lib.rt:484:1
 returns : tie.Need-returns
 unfolding faultErrors
 returns c = simp (c .rec-plus .ensures)

@@ -8,19 +8,15 @@ use Rattle.bits.proofs.pick_u16.Reads as pick-u16-reads
 use Rattle.bits.proofs.pick_u8.Reads as pick-u8-reads
 use Rattle.control.proofs.recovers.Reads as recovers-reads
 
--- src/lib.rt:390:9
 recovers-requires : tie.Need-recovers-requires
 recovers-requires c κs = search needs
 
--- src/lib.rt:392:14
 pick-u16-requires : tie.Need-pick-u16-requires
 pick-u16-requires c κs = search needs
 
--- src/lib.rt:393:14
 pick-u8-requires : tie.Need-pick-u8-requires
 pick-u8-requires c κs = search needs
 
--- src/lib.rt:387:1
 returns : tie.Need-returns
 unfolding idleErrors
 returns c = simp (c .pick-u8 .ensures, c .before .pick-u16 .ensures, c .before .before .recovers .ensures)

@@ -5,12 +5,10 @@ use Rattle.control.proofs.idle_mode.Tie as tie
 use Rattle.control.proofs.idle_mode.Reads as reads
 use Rattle.control.proofs.idle_mode.Lts as lts
 
--- src/lib.rt:375:9
 returns : tie.Need-returns
 unfolding idleMode
 returns c = simp (eq-eqb _ _ (c .if1 .taken))
 
--- src/lib.rt:371:1
 returns-2 : tie.Need-returns-2
 unfolding idleMode
 returns-2 c = simp (ne-eqb _ _ (c .if1 .left))

@@ -9,23 +9,18 @@ use Rattle.control.proofs.counted.Reads as counted-reads
 use Rattle.control.proofs.entered.Reads as entered-reads
 use Rattle.control.proofs.idle_mode.Reads as idle-mode-reads
 
--- src/lib.rt:384:13
 counted-requires : tie.Need-counted-requires
 counted-requires c κs = search needs
 
--- src/lib.rt:384:28
 idle-mode-requires : tie.Need-idle-mode-requires
 idle-mode-requires c κs = search needs
 
--- src/lib.rt:384:49
 boff-requires : tie.Need-boff-requires
 boff-requires c κs = search needs
 
--- src/lib.rt:384:5
 entered-requires : tie.Need-entered-requires
 entered-requires c κs = search needs
 
--- src/lib.rt:380:1
 returns : tie.Need-returns
 unfolding idled
 returns c = simp (c .entered .ensures, c .before .boff .ensures, c .before .before .idle-mode .ensures, c .before .before .before .counted .ensures)

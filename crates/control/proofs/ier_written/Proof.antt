@@ -6,27 +6,21 @@ use Rattle.control.proofs.ier_written.Reads as reads
 use Rattle.control.proofs.ier_written.Lts as lts
 use Rattle.control.proofs.same_control.Reads as same-control-reads
 
--- src/lib.rt:289:13
 mul-d : tie.Need-mul-d
 mul-d c = search needs
 
--- src/lib.rt:289:39
 mul-d-2 : tie.Need-mul-d-2
 mul-d-2 c = search needs
 
--- src/lib.rt:289:13
 add-d : tie.Need-add-d
 add-d c = search needs
 
--- src/lib.rt:289:13
 add-d-2 : tie.Need-add-d-2
 add-d-2 c = search needs
 
--- src/lib.rt:290:5
 same-control-requires : tie.Need-same-control-requires
 same-control-requires c κs = search needs
 
--- src/lib.rt:285:1
 returns : tie.Need-returns
 unfolding ierWritten
 returns c = simp (c .same-control .ensures)

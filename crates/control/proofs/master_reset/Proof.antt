@@ -5,7 +5,6 @@ use Rattle.control.proofs.master_reset.Tie as tie
 use Rattle.control.proofs.master_reset.Reads as reads
 use Rattle.control.proofs.master_reset.Lts as lts
 
--- src/lib.rt:247:1
 returns : tie.Need-returns
 unfolding masterReset
 returns c = refl

@@ -8,27 +8,21 @@ use Rattle.bits.proofs.bit.Reads as bit-reads
 use Rattle.bits.proofs.pick_u16.Reads as pick-u16-reads
 use Rattle.control.proofs.same_control.Reads as same-control-reads
 
--- src/lib.rt:270:13
 mul-d : tie.Need-mul-d
 mul-d c = search needs
 
--- src/lib.rt:270:13
 add-d : tie.Need-add-d
 add-d c = search needs
 
--- src/lib.rt:271:24
 bit-requires : tie.Need-bit-requires
 bit-requires c κs = search needs
 
--- src/lib.rt:271:5
 pick-u16-requires : tie.Need-pick-u16-requires
 pick-u16-requires c κs = search needs
 
--- src/lib.rt:272:5
 same-control-requires : tie.Need-same-control-requires
 same-control-requires c κs = search needs
 
--- src/lib.rt:266:1
 returns : tie.Need-returns
 unfolding mcrWritten
 returns c = simp (c .same-control .ensures, c .before .pick-u16 .ensures, c .before .before .bit .ensures)

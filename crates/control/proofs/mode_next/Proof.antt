@@ -5,49 +5,39 @@ use Rattle.control.proofs.mode_next.Tie as tie
 use Rattle.control.proofs.mode_next.Reads as reads
 use Rattle.control.proofs.mode_next.Lts as lts
 
--- src/lib.rt:145:23
 enum-told : tie.Need-enum-told
 enum-told c = search needs
 
--- src/lib.rt:146:17
 returns : tie.Need-returns
 unfolding modeNext
 returns c = simp (c .if1 .taken, c .before .enum-told .given .1)
 
--- src/lib.rt:149:17
 returns-2 : tie.Need-returns-2
 unfolding modeNext
 returns-2 c = simp (c .if2 .taken, c .before .if1 .left, c .before .before .enum-told .given .1)
 
--- src/lib.rt:154:22
 enum-told-2 : tie.Need-enum-told-2
 enum-told-2 c = search needs
 
--- src/lib.rt:155:17
 returns-3 : tie.Need-returns-3
 unfolding modeNext
 returns-3 c = simp (c .if3 .taken, c .before .enum-told2 .given .1)
 
--- src/lib.rt:160:23
 enum-told-3 : tie.Need-enum-told-3
 enum-told-3 c = search needs
 
--- src/lib.rt:161:17
 returns-4 : tie.Need-returns-4
 unfolding modeNext
 returns-4 c = simp (c .if4 .taken, c .before .enum-told3 .given .1)
 
--- src/lib.rt:140:1
 returns-5 : tie.Need-returns-5
 unfolding modeNext
 returns-5 c = simp (c .if2 .left, c .before .if1 .left, c .before .before .enum-told .given .1)
 
--- src/lib.rt:140:1
 returns-6 : tie.Need-returns-6
 unfolding modeNext
 returns-6 c = simp (c .if3 .left, c .before .enum-told2 .given .1)
 
--- src/lib.rt:140:1
 returns-7 : tie.Need-returns-7
 unfolding modeNext
 returns-7 c = simp (c .if4 .left, c .before .enum-told3 .given .1)

@@ -7,67 +7,51 @@ use Rattle.control.proofs.msr_word.Lts as lts
 use Rattle.bits.proofs.one.Reads as one-reads
 use Rattle.control.proofs.mode_bits.Reads as mode-bits-reads
 
--- src/lib.rt:320:6
 mode-bits-requires : tie.Need-mode-bits-requires
 mode-bits-requires c κs = search needs
 
--- src/lib.rt:320:6
 cast-result : tie.Need-cast-result
 cast-result c = search needs
 
--- src/lib.rt:321:11
 one-requires : tie.Need-one-requires
 one-requires c κs = search needs
 
--- src/lib.rt:321:11
 mul-result : tie.Need-mul-result
 mul-result c = search needs
 
--- src/lib.rt:320:5
 add-result : tie.Need-add-result
 add-result c = search needs
 
--- src/lib.rt:322:11
 one-requires-2 : tie.Need-one-requires-2
 one-requires-2 c κs = search needs
 
--- src/lib.rt:322:11
 mul-result-2 : tie.Need-mul-result-2
 mul-result-2 c = search needs
 
--- src/lib.rt:320:5
 add-result-2 : tie.Need-add-result-2
 add-result-2 c = search needs
 
--- src/lib.rt:323:11
 one-requires-3 : tie.Need-one-requires-3
 one-requires-3 c κs = search needs
 
--- src/lib.rt:323:11
 mul-result-3 : tie.Need-mul-result-3
 mul-result-3 c = search needs
 
--- src/lib.rt:320:5
 add-result-3 : tie.Need-add-result-3
 add-result-3 c = search needs
 
--- src/lib.rt:324:11
 one-requires-4 : tie.Need-one-requires-4
 one-requires-4 c κs = search needs
 
--- src/lib.rt:324:11
 mul-result-4 : tie.Need-mul-result-4
 mul-result-4 c = search needs
 
--- src/lib.rt:320:5
 add-result-4 : tie.Need-add-result-4
 add-result-4 c = search needs
 
--- src/lib.rt:320:5
 add-result-5 : tie.Need-add-result-5
 add-result-5 c = search needs
 
--- src/lib.rt:316:1
 returns : tie.Need-returns
 unfolding msrWord
 returns c = simp (c .one4 .ensures .0, c .before .one3 .ensures .0, c .before .before .one2 .ensures .0, c .before .before .before .one .ensures .0, c .before .before .before .before .mode-bits .ensures)

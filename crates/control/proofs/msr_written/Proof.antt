@@ -7,23 +7,18 @@ use Rattle.control.proofs.msr_written.Lts as lts
 use Rattle.bits.proofs.bit.Reads as bit-reads
 use Rattle.control.proofs.same_control.Reads as same-control-reads
 
--- src/lib.rt:279:24
 bit-requires : tie.Need-bit-requires
 bit-requires c κs = search needs
 
--- src/lib.rt:280:24
 bit-requires-2 : tie.Need-bit-requires-2
 bit-requires-2 c κs = search needs
 
--- src/lib.rt:281:26
 bit-requires-3 : tie.Need-bit-requires-3
 bit-requires-3 c κs = search needs
 
--- src/lib.rt:282:5
 same-control-requires : tie.Need-same-control-requires
 same-control-requires c κs = search needs
 
--- src/lib.rt:275:1
 returns : tie.Need-returns
 unfolding msrWritten
 returns c = simp (c .same-control .ensures, c .before .before .bit3 .ensures, c .before .before .before .before .bit2 .ensures, c .before .before .before .before .before .before .bit .ensures)

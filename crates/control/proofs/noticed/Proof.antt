@@ -10,51 +10,39 @@ use Rattle.control.proofs.boff.Reads as boff-reads
 use Rattle.control.proofs.epvf.Reads as epvf-reads
 use Rattle.control.proofs.ewgf.Reads as ewgf-reads
 
--- src/lib.rt:498:9
 boff-requires : tie.Need-boff-requires
 boff-requires c κs = search needs
 
--- src/lib.rt:500:12
 bit-requires : tie.Need-bit-requires
 bit-requires c κs = search needs
 
--- src/lib.rt:500:28
 ewgf-requires : tie.Need-ewgf-requires
 ewgf-requires c κs = search needs
 
--- src/lib.rt:500:39
 ewgf-requires-2 : tie.Need-ewgf-requires-2
 ewgf-requires-2 c κs = search needs
 
--- src/lib.rt:501:12
 bit-requires-2 : tie.Need-bit-requires-2
 bit-requires-2 c κs = search needs
 
--- src/lib.rt:501:28
 epvf-requires : tie.Need-epvf-requires
 epvf-requires c κs = search needs
 
--- src/lib.rt:501:39
 epvf-requires-2 : tie.Need-epvf-requires-2
 epvf-requires-2 c κs = search needs
 
--- src/lib.rt:502:12
 bit-requires-3 : tie.Need-bit-requires-3
 bit-requires-3 c κs = search needs
 
--- src/lib.rt:502:36
 boff-requires-2 : tie.Need-boff-requires-2
 boff-requires-2 c κs = search needs
 
--- src/lib.rt:503:12
 bit-requires-4 : tie.Need-bit-requires-4
 bit-requires-4 c κs = search needs
 
--- src/lib.rt:510:19
 pick-u8-requires : tie.Need-pick-u8-requires
 pick-u8-requires c κs = search needs
 
--- src/lib.rt:494:1
 returns : tie.Need-returns
 unfolding noticed
 returns c = simp (c .before .pick-u8 .ensures, c .before .before .bit4 .ensures, c .before .before .before .boff2 .ensures, c .before .before .before .before .bit3 .ensures, c .before .before .before .before .before .epvf2 .ensures, c .before .before .before .before .before .before .epvf .ensures, c .before .before .before .before .before .before .before .bit2 .ensures, c .before .before .before .before .before .before .before .before .before .ewgf2 .ensures, c .before .before .before .before .before .before .before .before .before .before .ewgf .ensures, c .before .before .before .before .before .before .before .before .before .before .before .bit .ensures, c .before .before .before .before .before .before .before .before .before .before .before .before .boff .ensures)

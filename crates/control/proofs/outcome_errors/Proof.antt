@@ -8,25 +8,20 @@ use Rattle.control.proofs.outcome_errors.Lts as lts
 use Rattle.control.proofs.less_one_u16.Reads as less-one-u16-reads
 use Rattle.std.proofs.num.wrapping_add_u16.Reads as wrapping-add-u16-reads
 
--- src/lib.rt:450:18
 less-one-u16-requires : tie.Need-less-one-u16-requires
 less-one-u16-requires c κs = search needs
 
--- src/lib.rt:449:9
 returns : tie.Need-returns
 unfolding outcomeErrors
 returns c = simp (c .less-one-u16 .ensures, eq-eqb _ _ (c .before .if1 .taken))
 
--- src/lib.rt:456:9
 returns-2 : tie.Need-returns-2
 unfolding outcomeErrors
 returns-2 c = simp (eq-eqb _ _ (c .if2 .taken), ne-eqb _ _ (c .before .if1 .left))
 
--- src/lib.rt:459:14
 wrapping-add-u16-requires : tie.Need-wrapping-add-u16-requires
 wrapping-add-u16-requires c κs = search needs
 
--- src/lib.rt:445:1
 returns-3 : tie.Need-returns-3
 unfolding outcomeErrors
 returns-3 c = simp (c .wrapping-add-u16 .ensures, ne-eqb _ _ (c .before .if2 .left), ne-eqb _ _ (c .before .before .if1 .left))

@@ -6,20 +6,16 @@ use Rattle.control.proofs.rec_plus.Tie as tie
 use Rattle.control.proofs.rec_plus.Reads as reads
 use Rattle.control.proofs.rec_plus.Lts as lts
 
--- src/lib.rt:478:8
 sub-if1 : tie.Need-sub-if1
 sub-if1 c = search needs
 
--- src/lib.rt:479:9
 returns : tie.Need-returns
 unfolding recPlus
 returns c = simp (lt-ltb _ _ (c .if1 .taken))
 
--- src/lib.rt:481:5
 add-result : tie.Need-add-result
 add-result c = search needs
 
--- src/lib.rt:475:1
 returns-2 : tie.Need-returns-2
 unfolding recPlus
 returns-2 c = simp (le-ltb _ _ (c .if1 .left))

@@ -6,11 +6,9 @@ use Rattle.control.proofs.recovers.Reads as reads
 use Rattle.control.proofs.recovers.Lts as lts
 use Rattle.control.proofs.counts.Reads as counts-reads
 
--- src/lib.rt:357:5
 counts-requires : tie.Need-counts-requires
 counts-requires c κs = search needs
 
--- src/lib.rt:354:1
 returns : tie.Need-returns
 unfolding recovers
 returns c = simp (c .before .counts .ensures)

@@ -11,40 +11,31 @@ use Rattle.control.proofs.mode_next.Reads as mode-next-reads
 use Rattle.control.proofs.same_control.Reads as same-control-reads
 use Rattle.control.proofs.sleep.Reads as sleep-reads
 
--- src/lib.rt:216:9
 inrq-requires : tie.Need-inrq-requires
 inrq-requires c κs = search needs
 
--- src/lib.rt:217:9
 sleep-requires : tie.Need-sleep-requires
 sleep-requires c κs = search needs
 
--- src/lib.rt:219:9
 same-control-requires : tie.Need-same-control-requires
 same-control-requires c κs = search needs
 
--- src/lib.rt:219:9
 returns : tie.Need-returns
 returns c = simp (c .same-control .ensures) (settled-stays (c .before .before .before .before .args .k) (c .before .before .before .before .args .free) (c .before .before .before .before .args .off) (c .before .before .before .inrq .result) (c .before .before .sleep .result) (c .before .before .before .inrq .ensures) (c .before .before .sleep .ensures) (c .before .if1 .taken))
 
--- src/lib.rt:223:27
 mode-next-requires : tie.Need-mode-next-requires
 mode-next-requires c κs = search needs
 
--- src/lib.rt:223:9
 entered-requires : tie.Need-entered-requires
 entered-requires c κs = search needs
 
--- src/lib.rt:223:9
 returns-2 : tie.Need-returns-2
 unfolding settled
 returns-2 c = simp (c .entered .ensures, c .before .mode-next .ensures, c .before .before .if2 .taken, c .before .before .before .before .sleep .ensures, c .before .before .before .before .before .inrq .ensures)
 
--- src/lib.rt:225:5
 same-control-requires-2 : tie.Need-same-control-requires-2
 same-control-requires-2 c κs = search needs
 
--- src/lib.rt:213:1
 returns-3 : tie.Need-returns-3
 unfolding settled
 returns-3 c = simp (c .same-control2 .ensures, c .before .if2 .left)

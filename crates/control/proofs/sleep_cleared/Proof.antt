@@ -7,19 +7,15 @@ use Rattle.control.proofs.sleep_cleared.Reads as reads
 use Rattle.control.proofs.sleep_cleared.Lts as lts
 use Rattle.bits.proofs.bit.Reads as bit-reads
 
--- src/lib.rt:412:8
 bit-requires : tie.Need-bit-requires
 bit-requires c κs = search needs
 
--- src/lib.rt:413:16
 sub-result : tie.Need-sub-result
 sub-result c = two-or-more _ (sym (c .before .bit .ensures) ∙ c .if1 .taken)
 
--- src/lib.rt:413:9
 returns : tie.Need-returns
 returns c = simp (c .if1 .taken, ← (c .before .bit .ensures))
 
--- src/lib.rt:409:1
 returns-2 : tie.Need-returns-2
 returns-2 c = simp (c .if1 .left, ← (c .before .bit .ensures))
 

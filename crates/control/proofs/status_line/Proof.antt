@@ -6,19 +6,15 @@ use Rattle.control.proofs.status_line.Reads as reads
 use Rattle.control.proofs.status_line.Lts as lts
 use Rattle.bits.proofs.bit.Reads as bit-reads
 
--- src/lib.rt:342:6
 bit-requires : tie.Need-bit-requires
 bit-requires c κs = search needs
 
--- src/lib.rt:342:34
 bit-requires-2 : tie.Need-bit-requires-2
 bit-requires-2 c κs = search needs
 
--- src/lib.rt:342:62
 bit-requires-3 : tie.Need-bit-requires-3
 bit-requires-3 c κs = search needs
 
--- src/lib.rt:339:1
 returns : tie.Need-returns
 unfolding statusLine
 returns c = simp (c .before .bit3 .ensures, c .before .before .before .bit2 .ensures, c .before .before .before .before .before .bit .ensures)

@@ -10,27 +10,21 @@ use Rattle.control.proofs.same_control.Reads as same-control-reads
 use Rattle.control.proofs.ttcm.Reads as ttcm-reads
 use Rattle.std.proofs.num.wrapping_add_u16.Reads as wrapping-add-u16-reads
 
--- src/lib.rt:403:9
 wrapping-add-u16-requires : tie.Need-wrapping-add-u16-requires
 wrapping-add-u16-requires c κs = search needs
 
--- src/lib.rt:405:24
 is-normal-requires : tie.Need-is-normal-requires
 is-normal-requires c κs = search needs
 
--- src/lib.rt:405:39
 ttcm-requires : tie.Need-ttcm-requires
 ttcm-requires c κs = search needs
 
--- src/lib.rt:405:5
 pick-u16-requires : tie.Need-pick-u16-requires
 pick-u16-requires c κs = search needs
 
--- src/lib.rt:406:5
 same-control-requires : tie.Need-same-control-requires
 same-control-requires c κs = search needs
 
--- src/lib.rt:399:1
 returns : tie.Need-returns
 unfolding ticked
 returns c = simp (c .same-control .ensures, c .before .pick-u16 .ensures, c .before .before .ttcm .ensures, c .before .before .before .is-normal .ensures, c .before .before .before .before .wrapping-add-u16 .ensures)

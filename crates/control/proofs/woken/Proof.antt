@@ -9,23 +9,18 @@ use Rattle.control.proofs.awum.Reads as awum-reads
 use Rattle.control.proofs.same_control.Reads as same-control-reads
 use Rattle.control.proofs.sleep_cleared.Reads as sleep-cleared-reads
 
--- src/lib.rt:422:22
 awum-requires : tie.Need-awum-requires
 awum-requires c κs = search needs
 
--- src/lib.rt:422:31
 sleep-cleared-requires : tie.Need-sleep-cleared-requires
 sleep-cleared-requires c κs = search needs
 
--- src/lib.rt:422:5
 pick-u32-requires : tie.Need-pick-u32-requires
 pick-u32-requires c κs = search needs
 
--- src/lib.rt:424:5
 same-control-requires : tie.Need-same-control-requires
 same-control-requires c κs = search needs
 
--- src/lib.rt:418:1
 returns : tie.Need-returns
 unfolding woken
 returns c = simp (c .same-control .ensures, c .before .pick-u32 .ensures, c .before .before .sleep-cleared .ensures, c .before .before .before .awum .ensures)

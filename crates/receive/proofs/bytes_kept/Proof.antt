@@ -10,27 +10,22 @@ use Rattle.receive.proofs.bytes_kept.Tie as tie
 use Rattle.receive.proofs.bytes_kept.Reads as reads
 use Rattle.receive.proofs.bytes_kept.Lts as lts
 
--- src/lib.rt:41:9
 returns : tie.Need-returns
 unfolding bytesKept
 returns c = simp (le-leb _ _ (c .if1 .taken))
 
--- src/lib.rt:43:16
-mul-bits : tie.Need-mul-bits
-mul-bits c = search needs
+mul-width : tie.Need-mul-width
+mul-width c = search needs
 
--- src/lib.rt:44:10
 shl-result : tie.Need-shl-result
 shl-result c = search needs
 
--- src/lib.rt:44:5
 rem-result : tie.Need-rem-result
 rem-result c = rw (one-shifted (8 * c .before .args .n) (omega arith)) (pow-pos (8 * c .before .args .n))
 
--- src/lib.rt:37:1
 returns-2 : tie.Need-returns-2
 unfolding bytesKept
 returns-2 c = simp (one-shifted (8 * c .before .args .n) (omega arith), lt-leb _ _ (c .if1 .left))
 
 pub bytes-kept-spec : {M : Type 1} → statement M
-bytes-kept-spec = tie.close (tie.spec returns mul-bits shl-result rem-result returns-2)
+bytes-kept-spec = tie.close (tie.spec returns mul-width shl-result rem-result returns-2)

@@ -6,15 +6,12 @@ use Rattle.receive.proofs.cleared.Reads as reads
 use Rattle.receive.proofs.cleared.Lts as lts
 use Rattle.bits.proofs.bit.Reads as bit-reads
 
--- src/lib.rt:220:24
 bit-requires : tie.Need-bit-requires
 bit-requires c κs = search needs
 
--- src/lib.rt:221:24
 bit-requires-2 : tie.Need-bit-requires-2
 bit-requires-2 c κs = search needs
 
--- src/lib.rt:216:1
 returns : tie.Need-returns
 unfolding cleared
 returns c = simp (c .before .bit2 .ensures, c .before .before .before .bit .ensures)

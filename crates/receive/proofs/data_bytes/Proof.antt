@@ -7,21 +7,17 @@ use Rattle.receive.proofs.data_bytes.Reads as reads
 use Rattle.receive.proofs.data_bytes.Lts as lts
 use Rattle.bits.proofs.bit.Reads as bit-reads
 
--- src/lib.rt:28:8
 bit-requires : tie.Need-bit-requires
 bit-requires c κs = search needs
 
--- src/lib.rt:29:9
 returns : tie.Need-returns
 unfolding dataBytes
 returns c = simp (c .if1 .taken, ← (c .before .bit .ensures))
 
--- src/lib.rt:32:9
 returns-2 : tie.Need-returns-2
 unfolding dataBytes
 returns-2 c = simp (le-leb _ _ (c .if2 .taken), c .before .before .if1 .left, ← (c .before .before .before .bit .ensures))
 
--- src/lib.rt:25:1
 returns-3 : tie.Need-returns-3
 unfolding dataBytes
 returns-3 c = simp (lt-leb _ _ (c .if2 .left), c .before .before .if1 .left, ← (c .before .before .before .bit .ensures))

@@ -5,11 +5,9 @@ use Rattle.receive.proofs.empty_fifo.Reads as reads
 use Rattle.receive.proofs.empty_fifo.Lts as lts
 use Rattle.receive.proofs.no_frame.Reads as no-frame-reads
 
--- src/lib.rt:107:9
 no-frame-requires : tie.Need-no-frame-requires
 no-frame-requires c κs = search needs
 
--- src/lib.rt:104:1
 returns : tie.Need-returns
 returns c = simp (c .no-frame .ensures)
 

@@ -6,15 +6,12 @@ use Rattle.receive.proofs.malformed.Reads as reads
 use Rattle.receive.proofs.malformed.Lts as lts
 use Rattle.bits.proofs.bit.Reads as bit-reads
 
--- src/lib.rt:22:5
 bit-requires : tie.Need-bit-requires
 bit-requires c κs = search needs
 
--- src/lib.rt:22:30
 bit-requires-2 : tie.Need-bit-requires-2
 bit-requires-2 c κs = search needs
 
--- src/lib.rt:18:1
 returns : tie.Need-returns
 unfolding malformed
 returns c = simp (c .before .bit2 .ensures, c .before .before .bit .ensures)

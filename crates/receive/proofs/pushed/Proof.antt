@@ -7,43 +7,34 @@ use Rattle.receive.proofs.pushed.Reads as reads
 use Rattle.receive.proofs.pushed.Lts as lts
 use Rattle.receive.proofs.same_frame.Reads as same-frame-reads
 
--- src/lib.rt:136:9
 same-frame-requires : tie.Need-same-frame-requires
 same-frame-requires c κs = search needs
 
--- src/lib.rt:138:9
 returns : tie.Need-returns
 unfolding pushed
 returns c = simp (c .same-frame .ensures, eq-eqb _ _ (c .before .if1 .taken))
 
--- src/lib.rt:141:9
 same-frame-requires-2 : tie.Need-same-frame-requires-2
 same-frame-requires-2 c κs = search needs
 
--- src/lib.rt:143:9
 returns-2 : tie.Need-returns-2
 unfolding pushed
 returns-2 c = simp (c .same-frame2 .ensures, eq-eqb _ _ (c .before .if2 .taken), ne-eqb _ _ (c .before .before .if1 .left))
 
--- src/lib.rt:146:9
 same-frame-requires-3 : tie.Need-same-frame-requires-3
 same-frame-requires-3 c κs = search needs
 
--- src/lib.rt:149:9
 returns-3 : tie.Need-returns-3
 unfolding pushed
 returns-3 c = simp (c .same-frame3 .ensures, eq-eqb _ _ (c .before .if3 .taken), ne-eqb _ _ (c .before .before .if2 .left), ne-eqb _ _ (c .before .before .before .if1 .left))
 
--- src/lib.rt:153:9
 returns-4 : tie.Need-returns-4
 unfolding pushed
 returns-4 c = simp (c .if4 .taken, ne-eqb _ _ (c .before .if3 .left), ne-eqb _ _ (c .before .before .if2 .left), ne-eqb _ _ (c .before .before .before .if1 .left))
 
--- src/lib.rt:155:5
 same-frame-requires-4 : tie.Need-same-frame-requires-4
 same-frame-requires-4 c κs = search needs
 
--- src/lib.rt:130:1
 returns-5 : tie.Need-returns-5
 unfolding pushed
 returns-5 c = simp (c .same-frame4 .ensures, c .before .if4 .left, ne-eqb _ _ (c .before .before .if3 .left), ne-eqb _ _ (c .before .before .before .if2 .left), ne-eqb _ _ (c .before .before .before .before .if1 .left))

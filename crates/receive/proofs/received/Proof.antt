@@ -7,20 +7,16 @@ use Rattle.receive.proofs.received.Lts as lts
 use Rattle.receive.proofs.goes_into.Reads as goes-into-reads
 use Rattle.receive.proofs.pushed.Reads as pushed-reads
 
--- src/lib.rt:192:8
 goes-into-requires : tie.Need-goes-into-requires
 goes-into-requires c κs = search needs
 
--- src/lib.rt:193:9
 pushed-requires : tie.Need-pushed-requires
 pushed-requires c κs = search needs
 
--- src/lib.rt:193:9
 returns : tie.Need-returns
 unfolding received
 returns c = simp (c .pushed .ensures, c .before .if1 .taken, ← (c .before .before .goes-into .ensures))
 
--- src/lib.rt:189:1
 returns-2 : tie.Need-returns-2
 unfolding received
 returns-2 c = simp (c .if1 .left, ← (c .before .goes-into .ensures))

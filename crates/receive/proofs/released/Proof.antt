@@ -8,28 +8,22 @@ use Rattle.receive.proofs.released.Lts as lts
 use Rattle.receive.proofs.no_frame.Reads as no-frame-reads
 use Rattle.receive.proofs.same_frame.Reads as same-frame-reads
 
--- src/lib.rt:205:9
 returns : tie.Need-returns
 unfolding released
 returns c = simp (eq-eqb _ _ (c .if1 .taken))
 
--- src/lib.rt:209:5
 same-frame-requires : tie.Need-same-frame-requires
 same-frame-requires c κs = search needs
 
--- src/lib.rt:210:5
 same-frame-requires-2 : tie.Need-same-frame-requires-2
 same-frame-requires-2 c κs = search needs
 
--- src/lib.rt:211:5
 no-frame-requires : tie.Need-no-frame-requires
 no-frame-requires c κs = search needs
 
--- src/lib.rt:212:15
 sub-p : tie.Need-sub-p
 sub-p c = search needs
 
--- src/lib.rt:199:1
 returns-2 : tie.Need-returns-2
 unfolding released
 returns-2 c = simp (c .no-frame .ensures, c .before .same-frame2 .ensures, c .before .before .same-frame .ensures, ne-eqb _ _ (c .before .before .before .before .before .if1 .left))

@@ -6,35 +6,27 @@ use Rattle.receive.proofs.rfr_word.Reads as reads
 use Rattle.receive.proofs.rfr_word.Lts as lts
 use Rattle.bits.proofs.one.Reads as one-reads
 
--- src/lib.rt:238:6
 cast-result : tie.Need-cast-result
 cast-result c = search needs
 
--- src/lib.rt:238:24
 one-requires : tie.Need-one-requires
 one-requires c κs = search needs
 
--- src/lib.rt:238:24
 mul-result : tie.Need-mul-result
 mul-result c = search needs
 
--- src/lib.rt:238:5
 add-result : tie.Need-add-result
 add-result c = search needs
 
--- src/lib.rt:238:42
 one-requires-2 : tie.Need-one-requires-2
 one-requires-2 c κs = search needs
 
--- src/lib.rt:238:42
 mul-result-2 : tie.Need-mul-result-2
 mul-result-2 c = search needs
 
--- src/lib.rt:238:5
 add-result-2 : tie.Need-add-result-2
 add-result-2 c = search needs
 
--- src/lib.rt:235:1
 returns : tie.Need-returns
 unfolding rfrWord
 returns c = simp (c .one2 .ensures .0, c .before .one .ensures .0)

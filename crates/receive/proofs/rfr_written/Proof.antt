@@ -8,24 +8,19 @@ use Rattle.bits.proofs.bit.Reads as bit-reads
 use Rattle.receive.proofs.cleared.Reads as cleared-reads
 use Rattle.receive.proofs.released.Reads as released-reads
 
--- src/lib.rt:228:9
 cleared-requires : tie.Need-cleared-requires
 cleared-requires c κs = search needs
 
--- src/lib.rt:229:8
 bit-requires : tie.Need-bit-requires
 bit-requires c κs = search needs
 
--- src/lib.rt:230:9
 released-requires : tie.Need-released-requires
 released-requires c κs = search needs
 
--- src/lib.rt:230:9
 returns : tie.Need-returns
 unfolding rfrWritten
 returns c = simp (c .released .ensures, c .before .if1 .taken, ← (c .before .before .bit .ensures), c .before .before .before .cleared .ensures)
 
--- src/lib.rt:225:1
 returns-2 : tie.Need-returns-2
 unfolding rfrWritten
 returns-2 c = simp (c .if1 .left, ← (c .before .bit .ensures), c .before .before .cleared .ensures)

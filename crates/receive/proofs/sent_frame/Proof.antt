@@ -6,15 +6,12 @@ use Rattle.receive.proofs.sent_frame.Reads as reads
 use Rattle.receive.proofs.sent_frame.Lts as lts
 use Rattle.receive.proofs.sent_identifier.Reads as sent-identifier-reads
 
--- src/lib.rt:84:21
 sent-identifier-requires : tie.Need-sent-identifier-requires
 sent-identifier-requires c κs = search needs
 
--- src/lib.rt:87:17
 cast-t4 : tie.Need-cast-t4
 cast-t4 c = search needs
 
--- src/lib.rt:80:1
 returns : tie.Need-returns
 unfolding sentFrame
 returns c = simp (c .before .sent-identifier .ensures)

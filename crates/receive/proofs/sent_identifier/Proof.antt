@@ -6,28 +6,22 @@ use Rattle.receive.proofs.sent_identifier.Reads as reads
 use Rattle.receive.proofs.sent_identifier.Lts as lts
 use Rattle.bits.proofs.bit.Reads as bit-reads
 
--- src/lib.rt:74:8
 bit-requires : tie.Need-bit-requires
 bit-requires c κs = search needs
 
--- src/lib.rt:75:9
 returns : tie.Need-returns
 unfolding sentIdentifier
 returns c = simp (c .if1 .taken, ← (c .before .bit .ensures))
 
--- src/lib.rt:77:5
 mul-result : tie.Need-mul-result
 mul-result c = search needs
 
--- src/lib.rt:77:32
 mul-result-2 : tie.Need-mul-result-2
 mul-result-2 c = search needs
 
--- src/lib.rt:77:5
 add-result : tie.Need-add-result
 add-result c = search needs
 
--- src/lib.rt:71:1
 returns-2 : tie.Need-returns-2
 unfolding sentIdentifier
 returns-2 c = simp (c .if1 .left, ← (c .before .bit .ensures))

@@ -8,43 +8,33 @@ use Rattle.receive.proofs.bytes_kept.Reads as bytes-kept-reads
 use Rattle.receive.proofs.data_bytes.Reads as data-bytes-reads
 use Rattle.receive.proofs.past_four.Reads as past-four-reads
 
--- src/lib.rt:62:9
 data-bytes-requires : tie.Need-data-bytes-requires
 data-bytes-requires c κs = search needs
 
--- src/lib.rt:65:15
 cast-t5 : tie.Need-cast-t5
 cast-t5 c = search needs
 
--- src/lib.rt:65:34
 mul-t7 : tie.Need-mul-t7
 mul-t7 c = search needs
 
--- src/lib.rt:65:14
 add-t8 : tie.Need-add-t8
 add-t8 c = search needs
 
--- src/lib.rt:65:55
 mul-t10 : tie.Need-mul-t10
 mul-t10 c = search needs
 
--- src/lib.rt:65:14
 add-t11 : tie.Need-add-t11
 add-t11 c = search needs
 
--- src/lib.rt:66:14
 bytes-kept-requires : tie.Need-bytes-kept-requires
 bytes-kept-requires c κs = search needs
 
--- src/lib.rt:67:25
 past-four-requires : tie.Need-past-four-requires
 past-four-requires c κs = search needs
 
--- src/lib.rt:67:14
 bytes-kept-requires-2 : tie.Need-bytes-kept-requires-2
 bytes-kept-requires-2 c κs = search needs
 
--- src/lib.rt:59:1
 returns : tie.Need-returns
 unfolding storedFrame
 returns c = simp (c .bytes-kept2 .ensures, c .before .past-four .ensures, c .before .before .bytes-kept .ensures, c .before .before .before .before .data-bytes .ensures)

@@ -1,0 +1,11 @@
+use mathlib.Core.Path.{refl}
+use Rattle.control.proofs.boff.Statement.{statement}
+use Rattle.control.proofs.boff.Tie as tie
+use Rattle.control.proofs.boff.Reads as reads
+use Rattle.control.proofs.boff.Lts as lts
+
+returns : tie.Need-returns
+returns c = refl
+
+pub boff-spec : {M : Type 1} → statement M
+boff-spec = tie.close (tie.spec returns)
