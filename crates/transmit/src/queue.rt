@@ -309,9 +309,9 @@ fn aborted(b: bool, q: Queue, m: Mailbox) -> Queue
 pub fn aborted_all(q: Queue, f: MailboxBits) -> Queue
     ensures { λ r. ⌜ r ≡ queue.abortedAll q f ⌝ }
 {
-    let first = aborted(f.m0, q, Mailbox::M0);
-    let second = aborted(f.m1, first, Mailbox::M1);
-    aborted(f.m2, second, Mailbox::M2)
+    let after_m0 = aborted(f.m0, q, Mailbox::M0);
+    let after_m1 = aborted(f.m1, after_m0, Mailbox::M1);
+    aborted(f.m2, after_m1, Mailbox::M2)
 }
 
 pub fn sending(q: Queue, m: Mailbox) -> Queue
@@ -329,10 +329,10 @@ pub fn sending(q: Queue, m: Mailbox) -> Queue
 fn freed(q: Queue) -> Queue
     ensures { λ r. ⌜ r ≡ queue.freed q ⌝ }
 {
-    let o = q.order;
+    let pending = q.order;
     let f = q.aborts;
     Queue {
-        order: o,
+        order: pending,
         transmitting: Sender::Nobody,
         aborts: f,
     }
