@@ -79,7 +79,7 @@ unfolding dataBytes bytesKept
 no-frame-range = record {
   ri = record { word = omega arith; even = refl; standard = λ _. refl };
   rdt = omega arith;
-  dlc = refl;
+  reserved = refl;
   fmi = omega arith;
   rdl = omega arith;
   rdh = omega arith;
@@ -102,7 +102,7 @@ stored-range x fmi time i l h n f t =
     record {
       ri = i;
       rdt = omega arith;
-      dlc = field 16 16 w (fmi + time * 256) 0 (x .length) (omega arith) n (omega arith);
+      reserved = field 16 16 w (fmi + time * 256) 0 (x .length) (omega arith) n (omega arith);
       fmi = rw e f;
       rdl = bytes-kept-word (dataBytes x) (x .low) l;
       rdh = bytes-kept-word (dataBytes x - 4) (x .high) h;

@@ -82,7 +82,7 @@ frameOf x = record { identifier = x .ri; low = x .rdl; high = x .rdh; length = x
 pub record FrameRange (x : StoredFrame) : Type 0 where
   pub ri : IdentifierRange (x .ri)
   pub rdt : x .rdt < 2 ^ 32
-  pub dlc : bits 4 4 (x .rdt) ≡ 0
+  pub reserved : bits 4 4 (x .rdt) ≡ 0
   pub fmi : bits 8 8 (x .rdt) < 4 * bankCount
   pub rdl : x .rdl < 2 ^ 32
   pub rdh : x .rdh < 2 ^ 32

@@ -1,2 +1,1 @@
 pub mod StatusParts
-pub mod TransmitRequest

@@ -91,13 +91,13 @@ pub fn tsr(txfp: bool, t: Transmit) -> u32
     flag_bytes(b, f) + code + empty + low
 }
 
-// TXRQ reads 1 while the mailbox is not empty. `ti` is even in every state that steps reach, so the sum does not wrap there.
+// TXRQ, bit 0, reads 1 while the mailbox is not empty.
 pub fn ti_word(t: Transmit, m: Mailbox) -> u32
-    ensures { λ r. ⌜ r ≡ mailboxes.tiWord t m % 2 ^ 32 ⌝ }
+    ensures { λ r. ⌜ r ≡ mailboxes.tiWord t m ⌝ }
 {
     let b = t.mailboxes;
     let q = t.queue;
     let o = q.order;
     let x = at(b, m);
-    std::num::wrapping_add_u32(x.ti, one(holds(o, m)))
+    x.ti / 2 * 2 + one(holds(o, m))
 }

@@ -1,0 +1,29 @@
+-- A refused step goes through the same code as an accepted one, and changes nothing.
+use mathlib.Core.Bool.{Bool, true, false, _&&_}
+use mathlib.Core.List.{List}
+use mathlib.Core.Path.{_≡_, refl}
+use Prim.Native.Nat.{ℕ}
+use lib.Dec.{eqb}
+use Rattle.model.specs.Base.{pick}
+use Rattle.model.specs.Control.{boff}
+use Rattle.model.specs.Control as control
+use Rattle.model.specs.Registers.{isFree}
+use Rattle.model.specs.Step.{applied, settled}
+use Rattle.model.specs.declared.Core.{Core}
+use Rattle.model.specs.declared.Control.{Control}
+use Rattle.model.specs.declared.Step.{Step}
+
+-- the state after a step with code k, before the mode rule
+unfoldable pub accepted : Core → List ℕ → Step → ℕ → Core
+accepted c v e k = pick (eqb k 0) (applied c v e) c
+
+-- the mode rule, where ok
+abbrev pub settledIf : Bool → Core → Control
+settledIf ok c = control.settled (c .control) (ok && isFree c) (boff (c .errors))
+
+pub after : (ok : Bool) (x c : Core)
+    → record { control = settledIf ok (pick ok x c); errors = pick ok x c .errors; transmit = pick ok x c .transmit; fifo0 = pick ok x c .fifo0; fifo1 = pick ok x c .fifo1; filters = pick ok x c .filters }
+    ≡ pick ok (settled x) c
+unfolding settled control.settled
+after true x c = refl
+after false x c = refl

@@ -1,0 +1,366 @@
+// One step of the controller, by value: a controller goes in, a controller comes back.
+ghost use mathlib.Core.Path.{_≡_};
+ghost use lib.Dec.{eqb};
+ghost use lib.ListN.{set};
+ghost use Prim.Native.Nat.{_+_, _*_, _<_};
+ghost use Rattle.model.specs.Base as base;
+ghost use Rattle.model.specs.Registers as map;
+ghost use Rattle.model.specs.Step as stepping;
+ghost use Rattle.controller.specs.After as after;
+use model::Acceptance;
+use model::Bank;
+use model::Control;
+use model::Controller;
+use model::Core;
+use model::Errors;
+use model::Fifo;
+use model::Filters;
+use model::Mailbox;
+use model::Mailboxes;
+use model::Register;
+use model::Sender;
+use model::Step;
+use model::Stepped;
+use model::Transmit;
+
+// ---- hardware reset
+
+fn core_reset() -> Core
+    ensures { λ r. ⌜ r ≡ map.reset .core ⌝ }
+{
+    let x = transmit::empty_mailbox();
+    let q = receive::empty_fifo();
+    let n = transmit::no_requests();
+    let k = control::control_reset();
+    Core {
+        control: k,
+        errors: Errors {
+            tec: 0,
+            rec: 0,
+            lec: 0,
+        },
+        transmit: Transmit {
+            mailboxes: Mailboxes {
+                m0: x,
+                m1: x,
+                m2: x,
+            },
+            queue: n,
+        },
+        fifo0: q,
+        fifo1: q,
+        filters: Filters {
+            mode: 0,
+            scale: 0,
+            assignment: 0,
+            activation: 0,
+            finit: true,
+        },
+    }
+}
+
+pub fn reset() -> Controller
+    ensures { λ r. ⌜ r ≡ map.reset ⌝ }
+{
+    Controller {
+        core: core_reset(),
+        banks: [0; 28],
+    }
+}
+
+// ---- the state after an accepted step
+
+// Loopback: where the good frame of a mailbox goes.
+fn looped_back(c: Core, banks: &[u32; 28], m: Mailbox, r: u8) -> Acceptance
+    ensures { λ a. ⌜ a ≡ stepping.loopedBack c (now (banks .entry)) m r ⌝ }
+{
+    let k = c.control;
+    let g = c.filters;
+    if (r == 0) & bits::bit(30, k.btr) & !g.finit {
+        let b = c.transmit.mailboxes;
+        let x = receive::sent_frame(transmit::at(b, m));
+        return filter::acceptance(g, banks, x.identifier);
+    }
+    Acceptance::Rejected
+}
+
+// One function for all: each arm stores the parts that it changes and gives the state. Two functions that take and
+// give the core would copy it in every step.
+fn accepted(c: Core, banks: &[u32; 28], e: Step, code: u8) -> Core
+    ensures { λ r. ⌜ r ≡ after.accepted c (now (banks .entry)) e code ⌝ }
+{
+    let mut d = c;
+    if code != 0 {
+        return d;
+    }
+    let k = c.control;
+    let n = c.errors;
+    let t = c.transmit;
+    let p = c.fifo0;
+    let q = c.fifo1;
+    let g = c.filters;
+    match e {
+        Step::Reset => core_reset(),
+        Step::Read(_) => d,
+        Step::Write(o, w) => {
+            let x = registers::register_at(o);
+            match x {
+                Register::Mcr => {
+                    if bits::bit(15, w) {
+                        d.control = control::master_reset(k);
+                        d.transmit = transmit::dropped(t);
+                        d.fifo0 = receive::empty_fifo();
+                        d.fifo1 = receive::empty_fifo();
+                        return d;
+                    }
+                    d.control = control::mcr_written(k, w);
+                    d
+                }
+                Register::Msr => {
+                    d.control = control::msr_written(k, w);
+                    d
+                }
+                Register::Tsr => {
+                    d.transmit = transmit::tsr_written(t, w);
+                    d
+                }
+                Register::Rfr(f) => match f {
+                    Fifo::F0 => {
+                        d.fifo0 = receive::rfr_written(p, w);
+                        d
+                    }
+                    Fifo::F1 => {
+                        d.fifo1 = receive::rfr_written(q, w);
+                        d
+                    }
+                },
+                Register::Ier => {
+                    d.control = control::ier_written(k, w);
+                    d
+                }
+                Register::Esr => {
+                    d.errors = control::esr_written(n, w);
+                    d
+                }
+                Register::Btr => {
+                    d.control = control::btr_written(k, w);
+                    d
+                }
+                Register::Ti(m) => {
+                    d.transmit = transmit::requested_by(t, m, w);
+                    d
+                }
+                Register::Tdt(m) => {
+                    let b = t.mailboxes;
+                    d.transmit = transmit::with_mailbox(
+                        t,
+                        m,
+                        transmit::tdt_written(transmit::at(b, m), w),
+                    );
+                    d
+                }
+                Register::Tdl(m) => {
+                    let b = t.mailboxes;
+                    d.transmit = transmit::with_mailbox(
+                        t,
+                        m,
+                        transmit::tdl_written(transmit::at(b, m), w),
+                    );
+                    d
+                }
+                Register::Tdh(m) => {
+                    let b = t.mailboxes;
+                    d.transmit = transmit::with_mailbox(
+                        t,
+                        m,
+                        transmit::tdh_written(transmit::at(b, m), w),
+                    );
+                    d
+                }
+                Register::Ri(_) => d,
+                Register::Rdt(_) => d,
+                Register::Rdl(_) => d,
+                Register::Rdh(_) => d,
+                Register::Fmr => {
+                    let mut h = g;
+                    h.finit = bits::bit(0, w);
+                    d.filters = h;
+                    d
+                }
+                Register::Fm1r => {
+                    let mut h = g;
+                    h.mode = w % 16384;
+                    d.filters = h;
+                    d
+                }
+                Register::Fs1r => {
+                    let mut h = g;
+                    h.scale = w % 16384;
+                    d.filters = h;
+                    d
+                }
+                Register::Ffa1r => {
+                    let mut h = g;
+                    h.assignment = w % 16384;
+                    d.filters = h;
+                    d
+                }
+                Register::Fa1r => {
+                    let mut h = g;
+                    h.activation = w % 16384;
+                    d.filters = h;
+                    d
+                }
+                Register::R1(_) => d,
+                Register::R2(_) => d,
+                Register::Absent => d,
+            }
+        }
+        Step::Idle => {
+            d.control = control::idled(k, n);
+            d.errors = control::idle_errors(k, n);
+            d
+        }
+        Step::BitTimes(x) => {
+            d.control = control::ticked(k, x);
+            d
+        }
+        Step::Activity => {
+            d.control = control::woken(k);
+            d
+        }
+        Step::Start => {
+            let s = transmit::first_of(bits::bit(2, k.mcr), t);
+            match s {
+                Sender::Nobody => d,
+                Sender::From(m) => {
+                    d.transmit = transmit::started(t, m, k.timer);
+                    d
+                }
+            }
+        }
+        Step::Outcome(r) => {
+            let v = t.queue;
+            let s = v.transmitting;
+            match s {
+                Sender::Nobody => d,
+                Sender::From(m) => {
+                    let b = t.mailboxes;
+                    let x = transmit::at(b, m);
+                    let a = looped_back(c, banks, m, r);
+                    let y = receive::stored_frame(
+                        receive::sent_frame(x),
+                        receive::fmi_of(a),
+                        (x.tdt / 65536) as u16,
+                    );
+                    let locked = bits::bit(3, k.mcr);
+                    let u = control::outcome_errors(n, r);
+                    d.control = control::noticed(k, n, u, (r != 0) & (r != 7));
+                    d.errors = u;
+                    d.transmit = transmit::ended(t, m, r, bits::bit(4, k.mcr));
+                    d.fifo0 = receive::received(Fifo::F0, a, y, locked, p);
+                    d.fifo1 = receive::received(Fifo::F1, a, y, locked, q);
+                    d
+                }
+            }
+        }
+        Step::Receive(x) => {
+            let a = filter::acceptance(g, banks, x.identifier);
+            let y = receive::stored_frame(x, receive::fmi_of(a), k.timer);
+            let locked = bits::bit(3, k.mcr);
+            d.errors = control::received_errors(n);
+            d.fifo0 = receive::received(Fifo::F0, a, y, locked, p);
+            d.fifo1 = receive::received(Fifo::F1, a, y, locked, q);
+            d
+        }
+        Step::ReceiveError(x, y) => {
+            let u = control::fault_errors(n, x, y);
+            d.control = control::noticed(k, n, u, true);
+            d.errors = u;
+            d
+        }
+    }
+}
+
+// ---- the step
+
+fn settled_if(ok: bool, c: Core) -> Control
+    ensures { λ r. ⌜ r ≡ after.settledIf ok c ⌝ }
+{
+    let k = c.control;
+    let n = c.errors;
+    control::settled(k, ok & refusals::is_free(c), control::boff(n))
+}
+
+fn core_after(c: Core, banks: &[u32; 28], e: Step, code: u8) -> Core
+    ensures { λ r. ⌜ r ≡ stepping.coreAfter c (now (banks .entry)) e code ⌝ }
+{
+    let mut d = accepted(c, banks, e, code);
+    let k = settled_if(code == 0, d);
+    d.control = k;
+    d
+}
+
+// The banks with R1 (i = 0) or R2 (i = 1) of one bank written.
+fn bank_written(banks: [u32; 28], b: Bank, i: u32, w: u32) -> [u32; 28]
+    requires { ⌜ i < 2 ⌝ }
+    ensures { λ r. ⌜ r ≡ set banks (2 * (b .0) + i) w ⌝ }
+{
+    let mut v = banks;
+    let n = b.0;
+    if 14 <= n {
+        return v;
+    }
+    let j = (2 * n + i) as usize;
+    v[j] = w;
+    v
+}
+
+fn banks_after(banks: [u32; 28], e: Step, code: u8) -> [u32; 28]
+    ensures { λ r. ⌜ r ≡ stepping.banksAfter banks e code ⌝ }
+{
+    if code != 0 {
+        return banks;
+    }
+    match e {
+        Step::Reset => [0; 28],
+        Step::Read(_) => banks,
+        Step::Write(o, w) => {
+            let x = registers::register_at(o);
+            match x {
+                Register::R1(b) => bank_written(banks, b, 0, w),
+                Register::R2(b) => bank_written(banks, b, 1, w),
+                _ => banks,
+            }
+        }
+        Step::Idle => banks,
+        Step::BitTimes(_) => banks,
+        Step::Activity => banks,
+        Step::Start => banks,
+        Step::Outcome(_) => banks,
+        Step::Receive(_) => banks,
+        Step::ReceiveError(_, _) => banks,
+    }
+}
+
+// One register access, bus event or hardware reset: the next controller, the code, the lines, the word.
+pub fn step(z: Controller, e: Step) -> Stepped
+    ensures { λ r. ⌜ r ≡ stepping.step z e ⌝ }
+{
+    let c = z.core;
+    let banks = z.banks;
+    let code = refusals::refusal(c, e);
+    let word = reads::word_of(c, &banks, e, code);
+    let d = core_after(c, &banks, e, code);
+    let v = banks_after(banks, e, code);
+    let lines = reads::lines_of(d);
+    Stepped {
+        controller: Controller {
+            core: d,
+            banks: v,
+        },
+        code: code,
+        lines: lines,
+        word: word,
+    }
+}
