@@ -153,12 +153,15 @@ fn tried(k: FilterClass, part: u32, b: Bank) -> u32
     pick_u32(bit(b.0, part), width(k), 0)
 }
 
-// The matching filter with the lowest number.
+// The matching filter with the lowest number. In most classes there is no bank to search.
 fn first_hit(n: u32, g: Filters, banks: &[u32; 28], w: u32, k: FilterClass, f: Fifo) -> Hit
     requires { ⌜ n ≤ 14 ⌝ }
     ensures { λ r. ⌜ r ≡ search.firstHit n g (now (banks .entry)) w k f ⌝ }
 {
     let part = searched(g, k, f);
+    if part == 0 {
+        return Hit::Nothing;
+    }
     let mut i: u32 = 0;
     'search: loop {
         if n <= i {
