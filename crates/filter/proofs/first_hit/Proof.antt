@@ -79,8 +79,7 @@ loop-less c = search needs
 
 loop-again : tie.Need-loop-again Inv-loop μ-loop Inv-search μ-search
 loop-again c =
-    let miss = no-hit _ _ _ _ _ _ _ _ (sym (c .before .matches .ensures) ∙ c .if3 .left) in
-    (omega arith, first-more _ _ (c .before .before .before .loop .inv .1) miss)
+    (omega arith, first-more _ _ (c .before .before .before .loop .inv .1) (no-hit _ _ _ _ _ _ _ _ (sym (c .before .matches .ensures) ∙ c .if3 .left)))
 
 add-i : tie.Need-add-i Inv-loop μ-loop Inv-search μ-search
 add-i c = search needs
