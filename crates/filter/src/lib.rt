@@ -1,5 +1,6 @@
-// The filter that a frame passes: the classes of the banks, the numbers of their filters, and the search.
-// A word of `Filters` has a bit for each bank; `banks` holds R1 and R2 of each bank in turn; w is the frame's identifier word.
+// The filter that a frame passes: the filters of a bank, their numbers, and the search.
+// A word of `Filters` has a bit for each bank, `banks` has R1 and R2 of each bank in turn, w is the frame's identifier word.
+// n is the number of banks.
 ghost use mathlib.Core.Path.{_≡_};
 ghost use Prim.Native.Nat.{ℕ, _+_, _<_, _≤_};
 ghost use lib.Dec.{eqb};
@@ -85,6 +86,7 @@ fn own(f: Fifo, g: Filters) -> u32
     }
 }
 
+// How many of the i lowest bits are 1.
 fn ones_below(i: u32, w: u32) -> u32
     requires { ⌜ i < 32 ⌝ }
     ensures { λ r. ⌜ (r ≡ digits.onesBelow i w) × (r ≤ 32) ⌝ }
@@ -92,7 +94,7 @@ fn ones_below(i: u32, w: u32) -> u32
     u32::count_ones(w & ((1 << i) - 1))
 }
 
-// Of n banks: each lower bank of the FIFO, active or not, takes one number, one more if it is a list, and as many again
+// Each lower bank of the FIFO, active or not, takes one number, one more if it is a list, and as many again
 // if it has 16 bits.
 fn first_number_of(n: u32, g: Filters, f: Fifo, b: Bank) -> FilterNumber
     requires { ⌜ n ≤ 28 ⌝ }
@@ -116,6 +118,7 @@ pub fn first_number(g: Filters, f: Fifo, b: Bank) -> FilterNumber
     first_number_of(14, g, f, b)
 }
 
+// The number of filter j of a bank.
 fn number(n: u32, g: Filters, f: Fifo, b: Bank, j: u32) -> FilterNumber
     requires { ⌜ (n ≤ 28) × (j < 4) ⌝ }
     ensures { λ r. ⌜ r ≡ banks.filterNumber (banks.firstNumber n g f b .0 + j) ⌝ }
@@ -153,12 +156,23 @@ fn tried(k: FilterClass, part: u32, b: Bank) -> u32
     pick_u32(bit(b.0, part), width(k), 0)
 }
 
-// The matching filter with the lowest number.
-fn first_hit(n: u32, g: Filters, banks: &[u32; 28], w: u32, k: FilterClass, f: Fifo) -> Hit
+// The matching filter with the lowest number; `part` is the word of the banks that are searched, often none.
+fn first_hit(
+    n: u32,
+    g: Filters,
+    banks: &[u32; 28],
+    w: u32,
+    k: FilterClass,
+    f: Fifo,
+    part: u32,
+) -> Hit
     requires { ⌜ n ≤ 14 ⌝ }
+    requires { ⌜ ((i : ℕ) → i < 32 → base.bit i part ≡ search.searched g k f i) ⌝ }
     ensures { λ r. ⌜ r ≡ search.firstHit n g (now (banks .entry)) w k f ⌝ }
 {
-    let part = searched(g, k, f);
+    if part == 0 {
+        return Hit::Nothing;
+    }
     let mut i: u32 = 0;
     'search: loop {
         if n <= i {
@@ -201,17 +215,20 @@ fn better(a: Hit, b: Hit) -> Acceptance
     }
 }
 
+// One class in both FIFOs.
 fn best_of(n: u32, g: Filters, banks: &[u32; 28], w: u32, k: FilterClass) -> Acceptance
     requires { ⌜ n ≤ 14 ⌝ }
     ensures { λ r. ⌜ r ≡ search.better (search.firstHit n g (now (banks .entry)) w k Fifo.F0) (search.firstHit n g (now (banks .entry)) w k Fifo.F1) ⌝ }
 {
+    let part0 = searched(g, k, Fifo::F0);
+    let part1 = searched(g, k, Fifo::F1);
     better(
-        first_hit(n, g, banks, w, k, Fifo::F0),
-        first_hit(n, g, banks, w, k, Fifo::F1),
+        first_hit(n, g, banks, w, k, Fifo::F0, part0),
+        first_hit(n, g, banks, w, k, Fifo::F1, part1),
     )
 }
 
-// Of n banks: the first class that has a match wins, 32-bit before 16, list before mask.
+// The first class that has a match wins, 32-bit before 16, list before mask.
 fn acceptance_of(n: u32, g: Filters, banks: &[u32; 28], w: u32) -> Acceptance
     requires { ⌜ n ≤ 14 ⌝ }
     ensures { λ r. ⌜ r ≡ search.acceptance n g (now (banks .entry)) w ⌝ }

@@ -1,21 +1,16 @@
+-- The classes in their order of preference: each test of a class that is left says that it has no match.
 use Rattle.model.specs.Search.{acceptance, chosen}
 use Rattle.model.proofs.Preference.{last-class}
 use borrow.Author.Needs.{needs}
 use Rattle.filter.proofs.acceptance_of.Statement.{statement}
 use Rattle.filter.proofs.acceptance_of.Tie as tie
-use Rattle.filter.proofs.acceptance_of.Reads as reads
-use Rattle.filter.proofs.acceptance_of.Lts as lts
-use Rattle.filter.proofs.best_of.Reads as best-of-reads
 
--- src/lib.rt:246:37
 best-of-requires : tie.Need-best-of-requires
 best-of-requires c κs = search needs
 
--- src/lib.rt:246:29
 enum-known-f : tie.Need-enum-known-f
 enum-known-f c = search needs
 
--- src/lib.rt:247:9
 returns : tie.Need-returns
 unfolding acceptance chosen
 returns c = simp (c .before .f .given .1, ← (c .before .before .before .best-of .ensures))
@@ -23,15 +18,12 @@ returns c = simp (c .before .f .given .1, ← (c .before .before .before .best-o
 enum-told : tie.Need-enum-told
 enum-told c = search needs
 
--- src/lib.rt:249:37
 best-of-requires-2 : tie.Need-best-of-requires-2
 best-of-requires-2 c κs = search needs
 
--- src/lib.rt:249:29
 enum-known-f-2 : tie.Need-enum-known-f-2
 enum-known-f-2 c = search needs
 
--- src/lib.rt:250:9
 returns-2 : tie.Need-returns-2
 unfolding acceptance chosen
 returns-2 c = simp (c .before .f2 .given .1, ← (c .before .before .before .best-of2 .ensures), c .before .before .before .before .enum-told .given .1, ← (c .before .before .before .before .before .before .best-of .ensures))
@@ -39,15 +31,12 @@ returns-2 c = simp (c .before .f2 .given .1, ← (c .before .before .before .bes
 enum-told-2 : tie.Need-enum-told-2
 enum-told-2 c = search needs
 
--- src/lib.rt:252:37
 best-of-requires-3 : tie.Need-best-of-requires-3
 best-of-requires-3 c κs = search needs
 
--- src/lib.rt:252:29
 enum-known-f-3 : tie.Need-enum-known-f-3
 enum-known-f-3 c = search needs
 
--- src/lib.rt:253:9
 returns-3 : tie.Need-returns-3
 unfolding acceptance chosen
 returns-3 c = simp (c .before .f3 .given .1, ← (c .before .before .before .best-of3 .ensures), c .before .before .before .before .enum-told2 .given .1, ← (c .before .before .before .before .before .before .best-of2 .ensures), c .before .before .before .before .before .before .before .enum-told .given .1, ← (c .before .before .before .before .before .before .before .before .before .best-of .ensures))
@@ -55,11 +44,9 @@ returns-3 c = simp (c .before .f3 .given .1, ← (c .before .before .before .bes
 enum-told-3 : tie.Need-enum-told-3
 enum-told-3 c = search needs
 
--- src/lib.rt:255:5
 best-of-requires-4 : tie.Need-best-of-requires-4
 best-of-requires-4 c κs = search needs
 
--- src/lib.rt:242:1
 returns-4 : tie.Need-returns-4
 unfolding acceptance chosen
 returns-4 c = simp (last-class, c .best-of4 .ensures, c .before .enum-told3 .given .1, ← (c .before .before .before .best-of3 .ensures), c .before .before .before .before .enum-told2 .given .1, ← (c .before .before .before .before .before .before .best-of2 .ensures), c .before .before .before .before .before .before .before .enum-told .given .1, ← (c .before .before .before .before .before .before .before .before .before .best-of .ensures))

@@ -1,51 +1,39 @@
+-- Each of the five paths is a clause of the definition.
 use borrow.Author.Tests.{lt-ltb, le-ltb}
 use borrow.Author.Needs.{needs}
 use Rattle.filter.proofs.better.Statement.{statement}
 use Rattle.filter.proofs.better.Tie as tie
-use Rattle.filter.proofs.better.Reads as reads
-use Rattle.filter.proofs.better.Lts as lts
 
--- src/lib.rt:215:21
 enum-known-a : tie.Need-enum-known-a
 enum-known-a c = search needs
 
--- src/lib.rt:216:25
 enum-known-b : tie.Need-enum-known-b
 enum-known-b c = search needs
 
--- src/lib.rt:218:21
 returns : tie.Need-returns
 returns c = simp (lt-ltb _ _ (c .if1 .taken), c .before .before .before .before .b .given .1, c .before .before .before .before .before .before .before .a .given .1)
 
--- src/lib.rt:222:46
 enum-told : tie.Need-enum-told
 enum-told c = search needs
 
--- src/lib.rt:224:25
 enum-told-2 : tie.Need-enum-told-2
 enum-told-2 c = search needs
 
--- src/lib.rt:225:25
 enum-known-b-2 : tie.Need-enum-known-b-2
 enum-known-b-2 c = search needs
 
--- src/lib.rt:226:29
 enum-told-3 : tie.Need-enum-told-3
 enum-told-3 c = search needs
 
--- src/lib.rt:211:1
 returns-2 : tie.Need-returns-2
 returns-2 c = simp (le-ltb _ _ (c .if1 .left), c .before .before .before .before .b .given .1, c .before .before .before .before .before .before .before .a .given .1)
 
--- src/lib.rt:211:1
 returns-3 : tie.Need-returns-3
 returns-3 c = simp (c .enum-told .given .1, c .before .before .before .a .given .1)
 
--- src/lib.rt:211:1
 returns-4 : tie.Need-returns-4
 returns-4 c = simp (c .before .b2 .given .1, c .before .before .before .enum-told2 .given .1)
 
--- src/lib.rt:211:1
 returns-5 : tie.Need-returns-5
 returns-5 c = search needs
 

@@ -1,3 +1,4 @@
+-- Both loops: no filter, and no bank, that was passed is a hit. At a match this filter is the first of its bank, and its bank the first of all.
 use mathlib.Core.Path.{_≡_, sym, ap, _∙_}
 use Prim.Native.Nat.{_-_, _≤_}
 use native.Mathlib.Nat.{le-antisymm}
@@ -6,15 +7,9 @@ use borrow.Author.Needs.{needs}
 use Rattle.model.specs.Search.{first, hitAt, hitIn, firstHit}
 use Rattle.model.specs.declared.Hit.the-variants.{Filter, Nothing}
 use Rattle.model.proofs.FirstHit.{first-none, first-more, first-at, tried-le, no-hit, hit}
-use Rattle.filter.proofs.BankWords.{tried-by-bit}
+use Rattle.filter.proofs.BankWords.{tried-by-bit, no-bank-no-hit}
 use Rattle.filter.proofs.first_hit.Statement.{statement}
 use Rattle.filter.proofs.first_hit.Tie as tie
-use Rattle.filter.proofs.first_hit.Reads as reads
-use Rattle.filter.proofs.first_hit.Lts as lts
-use Rattle.filter.proofs.matches.Reads as matches-reads
-use Rattle.filter.proofs.number.Reads as number-reads
-use Rattle.filter.proofs.searched.Reads as searched-reads
-use Rattle.filter.proofs.tried.Reads as tried-reads
 
 abbrev Inv-loop : tie.InvT-loop
 Inv-loop n g banks w k f part i m a b j₀ j = (j ≤ m) × (first (hitAt n g banks w k f i) j ≡ Nothing)
@@ -28,111 +23,93 @@ Inv-search n g banks w k f part i₀ i = (i ≤ n) × (first (hitIn n g banks w 
 abbrev μ-search : tie.MeasureT-search
 μ-search n g banks w k f part i₀ i = n - i
 
--- src/lib.rt:161:9
-searched-requires : tie.Need-searched-requires Inv-loop μ-loop Inv-search μ-search
-searched-requires c κs = search needs
+returns : tie.Need-returns Inv-loop μ-loop Inv-search μ-search
+returns c = sym (no-bank-no-hit _ _ _ _ _ _ _ (c .before .pre .1) (c .if1 .taken) (omega arith))
 
--- src/lib.rt:163:5
 search-holds : tie.Need-search-holds Inv-loop μ-loop Inv-search μ-search
 search-holds c = (omega arith, first-none _)
 
--- src/lib.rt:167:13
 tried-requires : tie.Need-tried-requires Inv-loop μ-loop Inv-search μ-search
 tried-requires c κs = search needs
 
--- src/lib.rt:168:24
 mul-a : tie.Need-mul-a Inv-loop μ-loop Inv-search μ-search
 mul-a c = search needs
 
--- src/lib.rt:168:23
 cast-a : tie.Need-cast-a Inv-loop μ-loop Inv-search μ-search
 cast-a c = search needs
 
--- src/lib.rt:168:17
 mul-a-2 : tie.Need-mul-a-2 Inv-loop μ-loop Inv-search μ-search
 mul-a-2 c = search needs
 
--- src/lib.rt:168:17
 element-copy-out-a : tie.Need-element-copy-out-a Inv-loop μ-loop Inv-search μ-search
 element-copy-out-a c = search needs
 
--- src/lib.rt:169:24
 mul-b : tie.Need-mul-b Inv-loop μ-loop Inv-search μ-search
 mul-b c = search needs
 
--- src/lib.rt:169:24
 add-b : tie.Need-add-b Inv-loop μ-loop Inv-search μ-search
 add-b c = search needs
 
--- src/lib.rt:169:23
 cast-b : tie.Need-cast-b Inv-loop μ-loop Inv-search μ-search
 cast-b c = search needs
 
--- src/lib.rt:169:17
 mul-b-2 : tie.Need-mul-b-2 Inv-loop μ-loop Inv-search μ-search
 mul-b-2 c = search needs
 
--- src/lib.rt:169:17
 element-copy-out-b : tie.Need-element-copy-out-b Inv-loop μ-loop Inv-search μ-search
 element-copy-out-b c = search needs
 
--- src/lib.rt:171:9
 loop-holds : tie.Need-loop-holds Inv-loop μ-loop Inv-search μ-search
 loop-holds c = (omega arith, first-none _)
 
--- src/lib.rt:172:16
 matches-requires : tie.Need-matches-requires Inv-loop μ-loop Inv-search μ-search
 matches-requires c κs = search needs
 
--- src/lib.rt:173:43
 number-requires : tie.Need-number-requires Inv-loop μ-loop Inv-search μ-search
 number-requires c κs =
-    let at = c .before .before .before .before .before .before .before .before .before .before .args in
-    omega (arith, tried-by-bit (c .before .before .before .before .before .before .before .before .before .before .args .g) (c .before .before .before .before .before .before .before .before .before .before .args .k) (c .before .before .before .before .before .before .before .before .before .before .args .f) _ (c .before .before .before .before .before .before .before .before .search .i) _ (c .before .before .before .before .before .before .before .before .before .searched .ensures) (omega arith) (c .before .before .before .before .before .before .tried .ensures), tried-le (at .g) (at .k) (at .f) (c .before .before .before .before .before .before .before .before .search .i))
+    let at = c .before .before .before .before .before .before .before .before .before .before in
+    let m = tried-by-bit (at .args .g) (at .args .k) (at .args .f) _ (c .before .before .before .before .before .before .before .before .search .i) _ (at .pre .1) (omega arith) (c .before .before .before .before .before .before .tried .ensures) in
+    omega (arith, m, tried-le (at .args .g) (at .args .k) (at .args .f) (c .before .before .before .before .before .before .before .before .search .i))
 
--- src/lib.rt:175:13
 add-j : tie.Need-add-j Inv-loop μ-loop Inv-search μ-search
 add-j c = search needs
 
--- src/lib.rt:171:9
 loop-less : tie.Need-loop-less Inv-loop μ-loop Inv-search μ-search
 loop-less c = search needs
 
--- src/lib.rt:171:9
 loop-again : tie.Need-loop-again Inv-loop μ-loop Inv-search μ-search
-loop-again c = (omega arith, first-more _ _ (c .before .before .before .loop .inv .1) (no-hit _ _ _ _ _ _ _ _ (sym (c .before .matches .ensures) ∙ c .if2 .left)))
+loop-again c =
+    (omega arith, first-more _ _ (c .before .before .before .loop .inv .1) (no-hit _ _ _ _ _ _ _ _ (sym (c .before .matches .ensures) ∙ c .if3 .left)))
 
--- src/lib.rt:177:9
 add-i : tie.Need-add-i Inv-loop μ-loop Inv-search μ-search
 add-i c = search needs
 
--- src/lib.rt:163:5
 search-less : tie.Need-search-less Inv-loop μ-loop Inv-search μ-search
 search-less c = search needs
 
--- src/lib.rt:163:5
 search-again : tie.Need-search-again Inv-loop μ-loop Inv-search μ-search
 unfolding hitIn
 search-again c =
-    let all : c .before .loop .j ≡ _ = le-antisymm (c .before .loop .inv .0) (c .loop-test .left) ∙ tried-by-bit (c .before .before .before .before .before .before .before .before .args .g) (c .before .before .before .before .before .before .before .before .args .k) (c .before .before .before .before .before .before .before .before .args .f) _ (c .before .before .before .before .before .before .search .i) _ (c .before .before .before .before .before .before .before .searched .ensures) (omega arith) (c .before .before .before .before .tried .ensures) in
+    let at = c .before .before .before .before .before .before .before .before in
+    let m = tried-by-bit (at .args .g) (at .args .k) (at .args .f) _ (c .before .before .before .before .before .before .search .i) _ (at .pre .1) (omega arith) (c .before .before .before .before .tried .ensures) in
+    let all : c .before .loop .j ≡ _ = le-antisymm (c .before .loop .inv .0) (c .loop-test .left) ∙ m in
     (omega arith, first-more _ _ (c .before .before .before .before .before .before .search .inv .1) (rw (← all) (c .before .loop .inv .1)))
 
--- src/lib.rt:157:1
-returns : tie.Need-returns Inv-loop μ-loop Inv-search μ-search
+returns-2 : tie.Need-returns-2 Inv-loop μ-loop Inv-search μ-search
 unfolding firstHit
-returns c =
+returns-2 c =
     let all : c .before .search .i ≡ c .before .before .before .args .n = omega arith in
     sym (rw all at (c .before .search .inv .1))
 
--- src/lib.rt:157:1
-returns-2 : tie.Need-returns-2 Inv-loop μ-loop Inv-search μ-search
+returns-3 : tie.Need-returns-3 Inv-loop μ-loop Inv-search μ-search
 unfolding firstHit hitIn
-returns-2 c =
-    let here = c .before .before .before .before .loop in
-    let within = rw (tried-by-bit (c .before .before .before .before .before .before .before .before .before .before .before .args .g) (c .before .before .before .before .before .before .before .before .before .before .before .args .k) (c .before .before .before .before .before .before .before .before .before .before .before .args .f) _ (c .before .before .before .before .before .before .before .before .before .search .i) _ (c .before .before .before .before .before .before .before .before .before .before .searched .ensures) (omega arith) (c .before .before .before .before .before .before .before .tried .ensures)) at (c .before .before .before .loop-test .taken) in
-    let found = hit _ _ _ _ _ _ _ _ (sym (c .before .before .matches .ensures) ∙ c .before .if2 .taken) in
+returns-3 c =
+    let at = c .before .before .before .before .before .before .before .before .before .before .before in
+    let m = tried-by-bit (at .args .g) (at .args .k) (at .args .f) _ (c .before .before .before .before .before .before .before .before .before .search .i) _ (at .pre .1) (omega arith) (c .before .before .before .before .before .before .before .tried .ensures) in
+    let within = rw m at (c .before .before .before .loop-test .taken) in
+    let found = hit _ _ _ _ _ _ _ _ (sym (c .before .before .matches .ensures) ∙ c .before .if3 .taken) in
     ap Filter (c .number .ensures)
-    ∙ sym (first-at _ _ _ _ (omega arith) (c .before .before .before .before .before .before .before .before .before .search .inv .1) (first-at _ _ _ _ within (here .inv .1) found))
+    ∙ sym (first-at _ _ _ _ (omega arith) (c .before .before .before .before .before .before .before .before .before .search .inv .1) (first-at _ _ _ _ within (c .before .before .before .before .loop .inv .1) found))
 
 pub first-hit-spec : {M : Type 1} → statement M
 first-hit-spec =
@@ -142,7 +119,7 @@ first-hit-spec =
     μ-loop
     Inv-search
     μ-search
-    searched-requires
+    returns
     search-holds
     tried-requires
     mul-a
@@ -163,5 +140,5 @@ first-hit-spec =
     add-i
     search-less
     search-again
-    returns
-    returns-2)
+    returns-2
+    returns-3)

@@ -1,3 +1,4 @@
+-- The four counts of ones are the sum over the lower banks: `first-number-from-counts`.
 use mathlib.Core.Path.{_≡_, sym, ap}
 use Prim.Native.Nat.{_^_, _<_}
 use native.Mathlib.Omega.{arith}
@@ -6,49 +7,34 @@ use Rattle.model.proofs.Numbering.{banks-below-le, first-number-from-counts}
 use borrow.Author.Needs.{needs}
 use Rattle.filter.proofs.first_number_of.Statement.{statement}
 use Rattle.filter.proofs.first_number_of.Tie as tie
-use Rattle.filter.proofs.first_number_of.Reads as reads
-use Rattle.filter.proofs.first_number_of.Lts as lts
-use Rattle.bits.proofs.pick_u32.Reads as pick-u32-reads
-use Rattle.filter.proofs.ones_below.Reads as ones-below-reads
-use Rattle.filter.proofs.own.Reads as own-reads
 
--- src/lib.rt:142:9
 pick-u32-requires : tie.Need-pick-u32-requires
 pick-u32-requires c κs = search needs
 
--- src/lib.rt:143:9
 own-requires : tie.Need-own-requires
 own-requires c κs = search needs
 
--- src/lib.rt:146:18
 ones-below-requires : tie.Need-ones-below-requires
 ones-below-requires c κs = omega (arith, c .before .before .before .pick-u32 .ensures, banks-below-le (c .before .before .before .before .before .args .n) (c .before .before .before .before .before .args .b .0))
 
--- src/lib.rt:147:11
 ones-below-requires-2 : tie.Need-ones-below-requires-2
 ones-below-requires-2 c κs = omega (arith, c .before .before .before .before .pick-u32 .ensures, banks-below-le (c .before .before .before .before .before .before .args .n) (c .before .before .before .before .before .before .args .b .0))
 
--- src/lib.rt:146:18
 add-number : tie.Need-add-number
 add-number c = search needs
 
--- src/lib.rt:148:11
 ones-below-requires-3 : tie.Need-ones-below-requires-3
 ones-below-requires-3 c κs = omega (arith, c .before .before .before .before .before .pick-u32 .ensures, banks-below-le (c .before .before .before .before .before .before .before .args .n) (c .before .before .before .before .before .before .before .args .b .0))
 
--- src/lib.rt:146:18
 add-number-2 : tie.Need-add-number-2
 add-number-2 c = search needs
 
--- src/lib.rt:149:11
 ones-below-requires-4 : tie.Need-ones-below-requires-4
 ones-below-requires-4 c κs = omega (arith, c .before .before .before .before .before .before .pick-u32 .ensures, banks-below-le (c .before .before .before .before .before .before .before .before .args .n) (c .before .before .before .before .before .before .before .before .args .b .0))
 
--- src/lib.rt:146:18
 add-number-3 : tie.Need-add-number-3
 add-number-3 c = search needs
 
--- src/lib.rt:138:1
 returns : tie.Need-returns
 returns c =
     let at = c .before .before .before .before .before .before .before .before .before in

@@ -1,3 +1,4 @@
+-- Each number of a filter is a place in the list of its class; past the last there is none.
 use mathlib.Core.Path.{sym}
 use native.Mathlib.Omega.{arith}
 use Rattle.model.specs.Banks.{matches}
@@ -6,121 +7,91 @@ use Rattle.model.proofs.FirstHit.{no-filter}
 use borrow.Author.Needs.{needs}
 use Rattle.filter.proofs.matches.Statement.{statement}
 use Rattle.filter.proofs.matches.Tie as tie
-use Rattle.filter.proofs.matches.Reads as reads
-use Rattle.filter.proofs.matches.Lts as lts
-use Rattle.filter.proofs.short_word.Reads as short-word-reads
-use Rattle.filter.proofs.takes_under.Reads as takes-under-reads
 
--- src/lib.rt:84:32
 enum-told : tie.Need-enum-told
 enum-told c = search needs
 
--- src/lib.rt:89:32
 enum-told-2 : tie.Need-enum-told-2
 enum-told-2 c = search needs
 
--- src/lib.rt:90:18
 takes-under-requires : tie.Need-takes-under-requires
 takes-under-requires c κs = search needs
 
--- src/lib.rt:93:32
 enum-told-3 : tie.Need-enum-told-3
 enum-told-3 c = search needs
 
--- src/lib.rt:94:18
 short-word-requires : tie.Need-short-word-requires
 short-word-requires c κs = search needs
 
--- src/lib.rt:95:18
 short-word-requires-2 : tie.Need-short-word-requires-2
 short-word-requires-2 c κs = search needs
 
--- src/lib.rt:96:18
 short-word-requires-3 : tie.Need-short-word-requires-3
 short-word-requires-3 c κs = search needs
 
--- src/lib.rt:97:18
 short-word-requires-4 : tie.Need-short-word-requires-4
 short-word-requires-4 c κs = search needs
 
--- src/lib.rt:100:32
 enum-told-4 : tie.Need-enum-told-4
 enum-told-4 c = search needs
 
--- src/lib.rt:101:52
 short-word-requires-5 : tie.Need-short-word-requires-5
 short-word-requires-5 c κs = search needs
 
--- src/lib.rt:101:18
 takes-under-requires-2 : tie.Need-takes-under-requires-2
 takes-under-requires-2 c κs = search needs
 
--- src/lib.rt:102:52
 short-word-requires-6 : tie.Need-short-word-requires-6
 short-word-requires-6 c κs = search needs
 
--- src/lib.rt:102:18
 takes-under-requires-3 : tie.Need-takes-under-requires-3
 takes-under-requires-3 c κs = search needs
 
--- src/lib.rt:80:1
 returns : tie.Need-returns
 unfolding matches
 returns c = simp (c .before .enum-told .given .1, c .match2 .keys1)
 
--- src/lib.rt:80:1
 returns-2 : tie.Need-returns-2
 unfolding matches
 returns-2 c = simp (c .before .enum-told .given .1, c .match2 .keys2)
 
--- src/lib.rt:80:1
 returns-3 : tie.Need-returns-3
 returns-3 c = simp (c .before .enum-told .given .1) (sym (no-filter List32 _ _ _ _ (omega arith)))
 
--- src/lib.rt:80:1
 returns-4 : tie.Need-returns-4
 unfolding matches
 returns-4 c = simp (c .takes-under .ensures, c .before .before .enum-told2 .given .1, c .before .match3 .keys1)
 
--- src/lib.rt:80:1
 returns-5 : tie.Need-returns-5
 returns-5 c = simp (c .before .enum-told2 .given .1) (sym (no-filter Mask32 _ _ _ _ (omega arith)))
 
--- src/lib.rt:80:1
 returns-6 : tie.Need-returns-6
 unfolding matches
 returns-6 c = simp (c .short-word .ensures, c .before .before .enum-told3 .given .1, c .before .match4 .keys1)
 
--- src/lib.rt:80:1
 returns-7 : tie.Need-returns-7
 unfolding matches
 returns-7 c = simp (c .short-word2 .ensures, c .before .before .enum-told3 .given .1, c .before .match4 .keys2)
 
--- src/lib.rt:80:1
 returns-8 : tie.Need-returns-8
 unfolding matches
 returns-8 c = simp (c .short-word3 .ensures, c .before .before .enum-told3 .given .1, c .before .match4 .keys3)
 
--- src/lib.rt:80:1
 returns-9 : tie.Need-returns-9
 unfolding matches
 returns-9 c = simp (c .short-word4 .ensures, c .before .before .enum-told3 .given .1, c .before .match4 .keys4)
 
--- src/lib.rt:80:1
 returns-10 : tie.Need-returns-10
 returns-10 c = simp (c .before .enum-told3 .given .1) (sym (no-filter List16 _ _ _ _ (omega arith)))
 
--- src/lib.rt:80:1
 returns-11 : tie.Need-returns-11
 unfolding matches
 returns-11 c = simp (c .takes-under2 .ensures, c .before .short-word5 .ensures, c .before .before .before .enum-told4 .given .1, c .before .before .match5 .keys1)
 
--- src/lib.rt:80:1
 returns-12 : tie.Need-returns-12
 unfolding matches
 returns-12 c = simp (c .takes-under3 .ensures, c .before .short-word6 .ensures, c .before .before .before .enum-told4 .given .1, c .before .before .match5 .keys2)
 
--- src/lib.rt:80:1
 returns-13 : tie.Need-returns-13
 returns-13 c = simp (c .before .enum-told4 .given .1) (sym (no-filter Mask16 _ _ _ _ (omega arith)))
 

@@ -1,22 +1,16 @@
 use borrow.Author.Needs.{needs}
 use Rattle.filter.proofs.own.Statement.{statement}
 use Rattle.filter.proofs.own.Tie as tie
-use Rattle.filter.proofs.own.Reads as reads
-use Rattle.filter.proofs.own.Lts as lts
 
--- src/lib.rt:124:21
 enum-told : tie.Need-enum-told
 enum-told c = search needs
 
--- src/lib.rt:125:21
 enum-told-2 : tie.Need-enum-told-2
 enum-told-2 c = search needs
 
--- src/lib.rt:120:1
 returns : tie.Need-returns
 returns c = simp (c .before .enum-told .given .1)
 
--- src/lib.rt:120:1
 returns-2 : tie.Need-returns-2
 returns-2 c = search needs
 

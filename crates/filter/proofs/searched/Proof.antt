@@ -1,22 +1,16 @@
+-- A bit of the word is the conjunction of three: `searched-bit`.
 use native.Mathlib.Omega.{arith}
 use Rattle.filter.proofs.BankWords.{searched-bit}
 use borrow.Author.Needs.{needs}
 use Rattle.filter.proofs.searched.Statement.{statement}
 use Rattle.filter.proofs.searched.Tie as tie
-use Rattle.filter.proofs.searched.Reads as reads
-use Rattle.filter.proofs.searched.Lts as lts
-use Rattle.filter.proofs.of_class.Reads as of-class-reads
-use Rattle.filter.proofs.own.Reads as own-reads
 
--- src/lib.rt:146:21
 own-requires : tie.Need-own-requires
 own-requires c κs = search needs
 
--- src/lib.rt:146:33
 of-class-requires : tie.Need-of-class-requires
 of-class-requires c κs = search needs
 
--- src/lib.rt:143:1
 returns : tie.Need-returns
 returns c =
     λ i h. simp (c .before .before .own .ensures)
