@@ -1,8 +1,7 @@
 // One step of the controller, by value: a controller goes in, a controller comes back.
 ghost use mathlib.Core.Path.{_≡_};
 ghost use lib.Dec.{eqb};
-ghost use lib.ListN.{set};
-ghost use Prim.Native.Nat.{_+_, _*_, _<_};
+ghost use Prim.Native.Nat.{_<_};
 ghost use Rattle.model.specs.Base as base;
 ghost use Rattle.model.specs.Registers as map;
 ghost use Rattle.model.specs.Step as stepping;
@@ -28,9 +27,9 @@ use model::Transmit;
 fn core_reset() -> Core
     ensures { λ r. ⌜ r ≡ map.reset .core ⌝ }
 {
-    let x = transmit::empty_mailbox();
+    let x = transmit::mailbox::empty_mailbox();
     let q = receive::empty_fifo();
-    let n = transmit::no_requests();
+    let n = transmit::queue::no_requests();
     let k = control::control_reset();
     Core {
         control: k,
@@ -78,7 +77,7 @@ fn looped_back(c: Core, banks: &[u32; 28], m: Mailbox, r: u8) -> Acceptance
     let g = c.filters;
     if (r == 0) & bits::bit(30, k.btr) & !g.finit {
         let b = c.transmit.mailboxes;
-        let x = receive::sent_frame(transmit::at(b, m));
+        let x = receive::sent_frame(transmit::mailbox::at(b, m));
         return filter::acceptance(g, banks, x.identifier);
     }
     Acceptance::Rejected
@@ -108,7 +107,7 @@ fn accepted(c: Core, banks: &[u32; 28], e: Step, code: u8) -> Core
                 Register::Mcr => {
                     if bits::bit(15, w) {
                         d.control = control::master_reset(k);
-                        d.transmit = transmit::dropped(t);
+                        d.transmit = transmit::mailbox::dropped(t);
                         d.fifo0 = receive::empty_fifo();
                         d.fifo1 = receive::empty_fifo();
                         return d;
@@ -121,7 +120,7 @@ fn accepted(c: Core, banks: &[u32; 28], e: Step, code: u8) -> Core
                     d
                 }
                 Register::Tsr => {
-                    d.transmit = transmit::tsr_written(t, w);
+                    d.transmit = transmit::mailbox::tsr_written(t, w);
                     d
                 }
                 Register::Rfr(f) => match f {
@@ -147,34 +146,19 @@ fn accepted(c: Core, banks: &[u32; 28], e: Step, code: u8) -> Core
                     d
                 }
                 Register::Ti(m) => {
-                    d.transmit = transmit::requested_by(t, m, w);
+                    d.transmit = transmit::mailbox::requested_by(t, m, w);
                     d
                 }
                 Register::Tdt(m) => {
-                    let b = t.mailboxes;
-                    d.transmit = transmit::with_mailbox(
-                        t,
-                        m,
-                        transmit::tdt_written(transmit::at(b, m), w),
-                    );
+                    d.transmit = transmit::mailbox::store_tdt(t, m, w);
                     d
                 }
                 Register::Tdl(m) => {
-                    let b = t.mailboxes;
-                    d.transmit = transmit::with_mailbox(
-                        t,
-                        m,
-                        transmit::tdl_written(transmit::at(b, m), w),
-                    );
+                    d.transmit = transmit::mailbox::store_tdl(t, m, w);
                     d
                 }
                 Register::Tdh(m) => {
-                    let b = t.mailboxes;
-                    d.transmit = transmit::with_mailbox(
-                        t,
-                        m,
-                        transmit::tdh_written(transmit::at(b, m), w),
-                    );
+                    d.transmit = transmit::mailbox::store_tdh(t, m, w);
                     d
                 }
                 Register::Ri(_) => d,
@@ -230,11 +214,11 @@ fn accepted(c: Core, banks: &[u32; 28], e: Step, code: u8) -> Core
             d
         }
         Step::Start => {
-            let s = transmit::first_of(bits::bit(2, k.mcr), t);
+            let s = transmit::priority::first_of(bits::bit(2, k.mcr), t);
             match s {
                 Sender::Nobody => d,
                 Sender::From(m) => {
-                    d.transmit = transmit::started(t, m, k.timer);
+                    d.transmit = transmit::wire::started(t, m, k.timer);
                     d
                 }
             }
@@ -246,7 +230,7 @@ fn accepted(c: Core, banks: &[u32; 28], e: Step, code: u8) -> Core
                 Sender::Nobody => d,
                 Sender::From(m) => {
                     let b = t.mailboxes;
-                    let x = transmit::at(b, m);
+                    let x = transmit::mailbox::at(b, m);
                     let a = looped_back(c, banks, m, r);
                     let y = receive::stored_frame(
                         receive::sent_frame(x),
@@ -257,7 +241,7 @@ fn accepted(c: Core, banks: &[u32; 28], e: Step, code: u8) -> Core
                     let u = control::outcome_errors(n, r);
                     d.control = control::noticed(k, n, u, (r != 0) & (r != 7));
                     d.errors = u;
-                    d.transmit = transmit::ended(t, m, r, bits::bit(4, k.mcr));
+                    d.transmit = transmit::wire::ended(t, m, r, bits::bit(4, k.mcr));
                     d.fifo0 = receive::received(Fifo::F0, a, y, locked, p);
                     d.fifo1 = receive::received(Fifo::F1, a, y, locked, q);
                     d
@@ -301,18 +285,18 @@ fn core_after(c: Core, banks: &[u32; 28], e: Step, code: u8) -> Core
     d
 }
 
-// The banks with R1 (i = 0) or R2 (i = 1) of one bank written.
-fn bank_written(banks: [u32; 28], b: Bank, i: u32, w: u32) -> [u32; 28]
+// R1 (i = 0) or R2 (i = 1) of a bank written.
+fn with_bank_word(banks: [u32; 28], b: Bank, i: u32, w: u32) -> [u32; 28]
     requires { ⌜ i < 2 ⌝ }
-    ensures { λ r. ⌜ r ≡ set banks (2 * (b .0) + i) w ⌝ }
+    ensures { λ r. ⌜ r ≡ map.withBankWord banks b i w ⌝ }
 {
     let mut v = banks;
     let n = b.0;
-    if 14 <= n {
+    if n < 14 {
+        let j = (2 * n + i) as usize;
+        v[j] = w;
         return v;
     }
-    let j = (2 * n + i) as usize;
-    v[j] = w;
     v
 }
 
@@ -328,8 +312,8 @@ fn banks_after(banks: [u32; 28], e: Step, code: u8) -> [u32; 28]
         Step::Write(o, w) => {
             let x = registers::register_at(o);
             match x {
-                Register::R1(b) => bank_written(banks, b, 0, w),
-                Register::R2(b) => bank_written(banks, b, 1, w),
+                Register::R1(b) => with_bank_word(banks, b, 0, w),
+                Register::R2(b) => with_bank_word(banks, b, 1, w),
                 _ => banks,
             }
         }

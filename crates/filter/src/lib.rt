@@ -108,7 +108,8 @@ fn first_number_of(n: u32, g: Filters, f: Fifo, b: Bank) -> FilterNumber
         + ones_below(i, lists)
         + ones_below(i, mine & halves)
         + ones_below(i, lists & halves);
-    FilterNumber(number)
+    let low = number as u8;
+    FilterNumber(low)
 }
 
 // The number that the first filter of a bank has in a FIFO.
@@ -124,8 +125,10 @@ fn number(n: u32, g: Filters, f: Fifo, b: Bank, j: u32) -> FilterNumber
     ensures { λ r. ⌜ r ≡ banks.filterNumber (banks.firstNumber n g f b .0 + j) ⌝ }
 {
     let first = first_number_of(n, g, f, b);
-    let number = first.0 + j;
-    FilterNumber(number)
+    let wide = first.0 as u32;
+    let number = wide + j;
+    let low = number as u8;
+    FilterNumber(low)
 }
 
 // ---- the search of one class in one FIFO

@@ -25,7 +25,7 @@ unfolding control.modeNext control.entered control.settled control.controlReset 
 controlling = tt
 
 unfoldable pub mapping : Unit {0}
-unfolding registers.controlRegister registers.mailboxRegister registers.outputRegister registers.blockRegister registers.bankRegister registers.filterRegister registers.registerAt registers.reset registers.coreReset registers.written registers.banksWritten registers.writeRefusal registers.readWord
+unfolding registers.bankWord registers.withBankWord registers.controlRegister registers.mailboxRegister registers.outputRegister registers.blockRegister registers.bankRegister registers.filterRegister registers.registerAt registers.reset registers.coreReset registers.written registers.banksWritten registers.writeRefusal registers.readWord
 mapping = tt
 
 unfoldable pub everything : Unit {0}

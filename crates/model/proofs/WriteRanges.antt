@@ -3,13 +3,13 @@ use mathlib.Core.Bool.{Bool, true, false, false≢true}
 use mathlib.Core.List.{List, [], _∷_}
 use mathlib.Core.Path.{_≡_, refl}
 use Prim.Native.Nat.{ℕ, zero, suc, _+_, _*_, _^_, _<_}
-use lib.Dec.{eqb}
+use lib.Dec.{ltb, eqb}
 use lib.ListN.{length, set, length-set}
 use Rattle.model.specs.Base.{bit}
 use Rattle.model.specs.Mailboxes.{requestedBy, tsrWritten, abrq}
 use Rattle.model.specs.Control.{isInitialization, isNormal, masterReset, mcrWritten, msrWritten, ierWritten, btrWritten, esrWritten}
 use Rattle.model.specs.Reception.{rfrWritten}
-use Rattle.model.specs.Registers.{fifoOf, hasRequest, isFree, coreReset, written, banksWritten, writeRefusal}
+use Rattle.model.specs.Registers.{fifoOf, hasRequest, isFree, coreReset, written, banksWritten, withBankWord, bankCount, writeRefusal}
 use Rattle.model.specs.Reachable.{Words, CoreRange}
 use Rattle.model.specs.declared.Mailbox.{Mailbox}
 use Rattle.model.specs.declared.Queue.{Queue}
@@ -35,7 +35,7 @@ set-words (x ∷ v) (suc i) w r l = (r .0, set-words v i w (r .1) l)
 
 -- what holds of the words, and with one of them set, holds of them written
 banks-cases : (P : List ℕ → Type 0) (g : Register) (v : List ℕ) (w : ℕ) → P v → ((i : ℕ) → P (set v i w)) → P (banksWritten g v w)
-unfolding banksWritten
+unfolding banksWritten withBankWord
 banks-cases P Mcr v w p s = p
 banks-cases P Msr v w p s = p
 banks-cases P Tsr v w p s = p
@@ -56,8 +56,8 @@ banks-cases P Fm1r v w p s = p
 banks-cases P Fs1r v w p s = p
 banks-cases P Ffa1r v w p s = p
 banks-cases P Fa1r v w p s = p
-banks-cases P (R1 b) v w p s = s (2 * (b .0))
-banks-cases P (R2 b) v w p s = s (2 * (b .0) + 1)
+banks-cases P (R1 b) v w p s = pick-cases P (ltb (b .0) bankCount) _ _ (λ _. s (2 * (b .0) + 0)) (λ _. p)
+banks-cases P (R2 b) v w p s = pick-cases P (ltb (b .0) bankCount) _ _ (λ _. s (2 * (b .0) + 1)) (λ _. p)
 banks-cases P Absent v w p s = p
 
 pub banks-written-length : (g : Register) (v : List ℕ) (w : ℕ) → length (banksWritten g v w) ≡ length v

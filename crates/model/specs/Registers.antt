@@ -161,6 +161,14 @@ coreReset c = record {
   filters = c .filters;
 }
 
+-- ---- the banks' words: R1 (i = 0) and R2 (i = 1) of each in turn
+
+unfoldable pub bankWord : List ℕ → Bank → ℕ → ℕ
+bankWord v b i = pick (ltb (b .0) bankCount) (getD v (2 * (b .0) + i) 0) 0
+
+unfoldable pub withBankWord : List ℕ → Bank → ℕ → ℕ → List ℕ
+withBankWord v b i w = pick (ltb (b .0) bankCount) (set v (2 * (b .0) + i) w) v
+
 -- ---- writes
 
 -- writable bits 0x3FFF
@@ -218,8 +226,8 @@ banksWritten Fm1r v w = v
 banksWritten Fs1r v w = v
 banksWritten Ffa1r v w = v
 banksWritten Fa1r v w = v
-banksWritten (R1 b) v w = set v (2 * (b .0)) w
-banksWritten (R2 b) v w = set v (2 * (b .0) + 1) w
+banksWritten (R1 b) v w = withBankWord v b 0 w
+banksWritten (R2 b) v w = withBankWord v b 1 w
 banksWritten Absent v w = v
 
 -- codes 1, 3 and 2 of a write
@@ -271,6 +279,6 @@ readWord Fm1r c v = c .filters .mode
 readWord Fs1r c v = c .filters .scale
 readWord Ffa1r c v = c .filters .assignment
 readWord Fa1r c v = c .filters .activation
-readWord (R1 b) c v = getD v (2 * (b .0)) 0
-readWord (R2 b) c v = getD v (2 * (b .0) + 1) 0
+readWord (R1 b) c v = bankWord v b 0
+readWord (R2 b) c v = bankWord v b 1
 readWord Absent c v = 0

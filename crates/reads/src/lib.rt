@@ -1,8 +1,7 @@
 // What a step shows of a controller: the word of a register or of a start, and the interrupt lines.
 ghost use mathlib.Core.Path.{_≡_};
-ghost use Prim.Native.Nat.{_+_, _*_, _<_};
+ghost use Prim.Native.Nat.{_<_};
 ghost use lib.Dec.{eqb};
-ghost use lib.ListN.{getD};
 ghost use Rattle.model.specs.Base as base;
 ghost use Rattle.model.specs.Reception as reception;
 ghost use Rattle.model.specs.Registers as map;
@@ -37,14 +36,14 @@ fn output_of(f: Fifo, c: Core) -> StoredFrame
 // R1 of a bank for i = 0, R2 for i = 1.
 fn bank_word(banks: &[u32; 28], b: Bank, i: u32) -> u32
     requires { ⌜ i < 2 ⌝ }
-    ensures { λ r. ⌜ r ≡ getD (now (banks .entry)) (2 * (b .0) + i) 0 ⌝ }
+    ensures { λ r. ⌜ r ≡ map.bankWord (now (banks .entry)) b i ⌝ }
 {
     let n = b.0;
-    if 14 <= n {
-        return 0;
+    if n < 14 {
+        let j = (2 * n + i) as usize;
+        return banks[j];
     }
-    let j = (2 * n + i) as usize;
-    banks[j]
+    0
 }
 
 fn read_word(g: Register, c: Core, banks: &[u32; 28]) -> u32

@@ -35,6 +35,9 @@ ones-below-requires-4 c κs = omega (arith, c .before .before .before .before .b
 add-number-3 : tie.Need-add-number-3
 add-number-3 c = search needs
 
+cast-low : tie.Need-cast-low
+cast-low c = search needs
+
 returns : tie.Need-returns
 returns c =
     let at = c .before .before .before .before .before .before .before .before .before in
@@ -68,4 +71,5 @@ first-number-of-spec =
     add-number-2
     ones-below-requires-4
     add-number-3
+    cast-low
     returns)

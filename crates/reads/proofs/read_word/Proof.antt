@@ -1,4 +1,3 @@
-use native.Mathlib.Nat.{add-zero}
 use borrow.Author.Needs.{needs}
 use Rattle.model.specs.Registers.{readWord}
 use Rattle.reads.proofs.read_word.Statement.{statement}
@@ -289,7 +288,7 @@ returns-20 c = simp (c .enum-told11 .given .1)
 -- src/lib.rt:50:1
 returns-21 : tie.Need-returns-21
 unfolding readWord
-returns-21 c = simp (c .bank-word .ensures, add-zero, c .before .before .g10 .given .1)
+returns-21 c = simp (c .bank-word .ensures, c .before .before .g10 .given .1)
 
 -- src/lib.rt:50:1
 returns-22 : tie.Need-returns-22
