@@ -1,0 +1,36 @@
+use borrow.Author.Needs.{needs}
+use Rattle.controller.proofs.with_bank_word.Statement.{statement}
+use Rattle.controller.proofs.with_bank_word.Tie as tie
+use Rattle.controller.proofs.with_bank_word.Reads as reads
+use Rattle.controller.proofs.with_bank_word.Lts as lts
+
+-- src/lib.rt:296:18
+mul-j : tie.Need-mul-j
+mul-j c = search needs
+
+-- src/lib.rt:296:18
+add-j : tie.Need-add-j
+add-j c = search needs
+
+-- src/lib.rt:296:17
+cast-j : tie.Need-cast-j
+cast-j c = search needs
+
+-- src/lib.rt:297:9
+mul-v : tie.Need-mul-v
+mul-v c = search needs
+
+-- src/lib.rt:297:9
+array-write-v : tie.Need-array-write-v
+array-write-v c = search needs
+
+-- src/lib.rt:298:9
+returns : tie.Need-returns
+returns c = ?
+
+-- src/lib.rt:289:1
+returns-2 : tie.Need-returns-2
+returns-2 c = ?
+
+pub with-bank-word-spec : {M : Type 1} → statement M
+with-bank-word-spec = tie.close (tie.spec mul-j add-j cast-j mul-v array-write-v returns returns-2)
