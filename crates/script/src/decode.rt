@@ -1,0 +1,106 @@
+// The decoders: the step of a record's body, one function for each tag that has one. Each takes the part of the script
+// where the body lies; a byte that the part lacks counts as 0.
+ghost use mathlib.Core.Path.{_≡_};
+ghost use Prim.Native.Nat.{_+_, _*_, _<_};
+ghost use Rattle.model.specs.Script as scripts;
+ghost use Rattle.model.specs.declared.Step.the-variants as step;
+use model::Frame;
+use model::Step;
+
+// ---- numbers, low byte first
+
+pub(crate) fn pair(low: u8, high: u8) -> u16
+    ensures { λ r. ⌜ r ≡ low + high * 256 ⌝ }
+{
+    (low as u16) + (high as u16) * 256
+}
+
+fn byte_at(b: &[u8], i: usize) -> u8
+    ensures { λ r. ⌜ r ≡ scripts.byteAt (now (b .entry)) i ⌝ }
+{
+    if i < b.len() {
+        return b[i];
+    }
+    0
+}
+
+fn number16(b: &[u8], i: usize) -> u16
+    requires { ⌜ i < 16 ⌝ }
+    ensures { λ r. ⌜ r ≡ scripts.number16 (now (b .entry)) i ⌝ }
+{
+    pair(byte_at(b, i), byte_at(b, i + 1))
+}
+
+fn number32(b: &[u8], i: usize) -> u32
+    requires { ⌜ i < 14 ⌝ }
+    ensures { λ r. ⌜ r ≡ scripts.number32 (now (b .entry)) i ⌝ }
+{
+    let low = number16(b, i);
+    let high = number16(b, i + 2);
+    (low as u32) + (high as u32) * 65536
+}
+
+// ---- a decoder for each tag that has a body
+
+fn read_step(b: &[u8]) -> Step
+    ensures { λ r. ⌜ r ≡ step.Read (scripts.number16 (now (b .entry)) 0) ⌝ }
+{
+    Step::Read(number16(b, 0))
+}
+
+fn write_step(b: &[u8]) -> Step
+    ensures { λ r. ⌜ r ≡ step.Write (scripts.number16 (now (b .entry)) 0) (scripts.number32 (now (b .entry)) 2) ⌝ }
+{
+    Step::Write(number16(b, 0), number32(b, 2))
+}
+
+fn bit_times_step(b: &[u8]) -> Step
+    ensures { λ r. ⌜ r ≡ step.BitTimes (scripts.number16 (now (b .entry)) 0) ⌝ }
+{
+    Step::BitTimes(number16(b, 0))
+}
+
+fn outcome_step(b: &[u8]) -> Step
+    ensures { λ r. ⌜ r ≡ step.Outcome (scripts.byteAt (now (b .entry)) 0) ⌝ }
+{
+    Step::Outcome(byte_at(b, 0))
+}
+
+fn receive_step(b: &[u8]) -> Step
+    ensures { λ r. ⌜ r ≡ step.Receive (record { identifier = (scripts.number32 (now (b .entry)) 0); low = (scripts.number32 (now (b .entry)) 5); high = (scripts.number32 (now (b .entry)) 9); length = (scripts.byteAt (now (b .entry)) 4) }) ⌝ }
+{
+    let identifier = number32(b, 0);
+    let length = byte_at(b, 4);
+    let low = number32(b, 5);
+    let high = number32(b, 9);
+    Step::Receive(Frame {
+        identifier: identifier,
+        low: low,
+        high: high,
+        length: length,
+    })
+}
+
+fn receive_error_step(b: &[u8]) -> Step
+    ensures { λ r. ⌜ r ≡ step.ReceiveError (scripts.byteAt (now (b .entry)) 0) (scripts.byteAt (now (b .entry)) 1) ⌝ }
+{
+    Step::ReceiveError(byte_at(b, 0), byte_at(b, 1))
+}
+
+// The step of a tag and its body.
+pub(crate) fn decoded(tag: u8, b: &[u8]) -> Step
+    ensures { λ r. ⌜ r ≡ scripts.decoded tag (now (b .entry)) ⌝ }
+{
+    match tag {
+        1 => Step::Reset,
+        2 => read_step(b),
+        3 => write_step(b),
+        4 => Step::Idle,
+        5 => bit_times_step(b),
+        6 => Step::Activity,
+        7 => Step::Start,
+        8 => outcome_step(b),
+        9 => receive_step(b),
+        _ => receive_error_step(b),
+    }
+}
