@@ -1,8 +1,9 @@
 // One step of the controller, by value: a controller goes in, a controller comes back.
 ghost use mathlib.Core.Path.{_≡_};
 ghost use lib.Dec.{eqb};
-ghost use Prim.Native.Nat.{_<_};
+ghost use Prim.Native.Nat.{_/_, _<_};
 ghost use Rattle.model.specs.Base as base;
+ghost use Rattle.model.specs.Reception as reception;
 ghost use Rattle.model.specs.Registers as map;
 ghost use Rattle.model.specs.Step as stepping;
 ghost use Rattle.controller.specs.After as after;
@@ -15,11 +16,13 @@ use model::Errors;
 use model::Fifo;
 use model::Filters;
 use model::Mailbox;
+use model::MailboxState;
 use model::Mailboxes;
 use model::Register;
 use model::Sender;
 use model::Step;
 use model::Stepped;
+use model::StoredFrame;
 use model::Transmit;
 
 // ---- hardware reset
@@ -81,6 +84,14 @@ fn looped_back(c: Core, banks: &[u32; 28], m: Mailbox, r: u8) -> Acceptance
         return filter::acceptance(g, banks, x.identifier);
     }
     Acceptance::Rejected
+}
+
+// The frame of a mailbox as it is stored, with the mailbox's TIME.
+fn looped_frame(x: MailboxState, a: Acceptance) -> StoredFrame
+    ensures { λ r. ⌜ r ≡ reception.storedFrame (reception.sentFrame x) (reception.fmiOf a) (x .tdt / 65536) ⌝ }
+{
+    let time = (x.tdt / 65536) as u16;
+    receive::stored_frame(receive::sent_frame(x), receive::fmi_of(a), time)
 }
 
 // One function for all: each arm stores the parts that it changes and gives the state. Two functions that take and
@@ -232,11 +243,7 @@ fn accepted(c: Core, banks: &[u32; 28], e: Step, code: u8) -> Core
                     let b = t.mailboxes;
                     let x = transmit::mailbox::at(b, m);
                     let a = looped_back(c, banks, m, r);
-                    let y = receive::stored_frame(
-                        receive::sent_frame(x),
-                        receive::fmi_of(a),
-                        (x.tdt / 65536) as u16,
-                    );
+                    let y = looped_frame(x, a);
                     let locked = bits::bit(3, k.mcr);
                     let u = control::outcome_errors(n, r);
                     d.control = control::noticed(k, n, u, (r != 0) & (r != 7));
@@ -300,6 +307,36 @@ fn with_bank_word(banks: [u32; 28], b: Bank, i: u32, w: u32) -> [u32; 28]
     v
 }
 
+fn banks_written(x: Register, banks: [u32; 28], w: u32) -> [u32; 28]
+    ensures { λ r. ⌜ r ≡ map.banksWritten x banks w ⌝ }
+{
+    match x {
+        Register::Mcr => banks,
+        Register::Msr => banks,
+        Register::Tsr => banks,
+        Register::Rfr(_) => banks,
+        Register::Ier => banks,
+        Register::Esr => banks,
+        Register::Btr => banks,
+        Register::Ti(_) => banks,
+        Register::Tdt(_) => banks,
+        Register::Tdl(_) => banks,
+        Register::Tdh(_) => banks,
+        Register::Ri(_) => banks,
+        Register::Rdt(_) => banks,
+        Register::Rdl(_) => banks,
+        Register::Rdh(_) => banks,
+        Register::Fmr => banks,
+        Register::Fm1r => banks,
+        Register::Fs1r => banks,
+        Register::Ffa1r => banks,
+        Register::Fa1r => banks,
+        Register::R1(b) => with_bank_word(banks, b, 0, w),
+        Register::R2(b) => with_bank_word(banks, b, 1, w),
+        Register::Absent => banks,
+    }
+}
+
 fn banks_after(banks: [u32; 28], e: Step, code: u8) -> [u32; 28]
     ensures { λ r. ⌜ r ≡ stepping.banksAfter banks e code ⌝ }
 {
@@ -309,14 +346,7 @@ fn banks_after(banks: [u32; 28], e: Step, code: u8) -> [u32; 28]
     match e {
         Step::Reset => [0; 28],
         Step::Read(_) => banks,
-        Step::Write(o, w) => {
-            let x = registers::register_at(o);
-            match x {
-                Register::R1(b) => with_bank_word(banks, b, 0, w),
-                Register::R2(b) => with_bank_word(banks, b, 1, w),
-                _ => banks,
-            }
-        }
+        Step::Write(o, w) => banks_written(registers::register_at(o), banks, w),
         Step::Idle => banks,
         Step::BitTimes(_) => banks,
         Step::Activity => banks,
@@ -339,10 +369,7 @@ pub fn step(z: Controller, e: Step) -> Stepped
     let v = banks_after(banks, e, code);
     let lines = reads::lines_of(d);
     Stepped {
-        controller: Controller {
-            core: d,
-            banks: v,
-        },
+        controller: Controller { core: d, banks: v },
         code: code,
         lines: lines,
         word: word,

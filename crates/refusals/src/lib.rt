@@ -52,11 +52,7 @@ pub fn may_receive(c: Core) -> bool
     let m = k.mode;
     let e = c.errors;
     let g = c.filters;
-    control::is_normal(m)
-        & !control::boff(e)
-        & is_free(c)
-        & !bits::bit(30, k.btr)
-        & !g.finit
+    control::is_normal(m) & !control::boff(e) & is_free(c) & !bits::bit(30, k.btr) & !g.finit
 }
 
 pub fn fault_in_range(k: u8, n: u8) -> bool

@@ -1,122 +1,116 @@
+use borrow.Author.Tests.{eq-eqb, ne-eqb}
 use borrow.Author.Needs.{needs}
+use Rattle.model.specs.Registers.{reset}
+use Rattle.model.specs.Step.{banksAfter, banksApplied}
 use Rattle.controller.proofs.banks_after.Statement.{statement}
 use Rattle.controller.proofs.banks_after.Tie as tie
 use Rattle.controller.proofs.banks_after.Reads as reads
 use Rattle.controller.proofs.banks_after.Lts as lts
-use Rattle.controller.proofs.with_bank_word.Reads as with-bank-word-reads
+use Rattle.controller.proofs.banks_written.Reads as banks-written-reads
 use Rattle.registers.proofs.register_at.Reads as register-at-reads
 
--- src/lib.rt:307:9
+-- src/lib.rt:337:9
 returns : tie.Need-returns
-returns c = ?
+unfolding banksAfter banksApplied reset
+returns c = simp (ne-eqb _ _ (c .if1 .taken))
 
--- src/lib.rt:310:24
+-- src/lib.rt:340:24
 enum-told : tie.Need-enum-told
 enum-told c = search needs
 
--- src/lib.rt:311:26
+-- src/lib.rt:341:26
 enum-told-2 : tie.Need-enum-told-2
 enum-told-2 c = search needs
 
--- src/lib.rt:312:21
+-- src/lib.rt:342:21
 enum-known-e : tie.Need-enum-known-e
 enum-known-e c = search needs
 
--- src/lib.rt:313:17
+-- src/lib.rt:342:44
 register-at-requires : tie.Need-register-at-requires
 register-at-requires c κs = search needs
 
--- src/lib.rt:315:30
-enum-known-x : tie.Need-enum-known-x
-enum-known-x c = search needs
+-- src/lib.rt:342:30
+banks-written-requires : tie.Need-banks-written-requires
+banks-written-requires c κs = search needs
 
--- src/lib.rt:315:36
-with-bank-word-requires : tie.Need-with-bank-word-requires
-with-bank-word-requires c κs = search needs
-
--- src/lib.rt:316:30
-enum-known-x-2 : tie.Need-enum-known-x-2
-enum-known-x-2 c = search needs
-
--- src/lib.rt:316:36
-with-bank-word-requires-2 : tie.Need-with-bank-word-requires-2
-with-bank-word-requires-2 c κs = search needs
-
--- src/lib.rt:320:23
+-- src/lib.rt:343:23
 enum-told-3 : tie.Need-enum-told-3
 enum-told-3 c = search needs
 
--- src/lib.rt:321:30
+-- src/lib.rt:344:30
 enum-told-4 : tie.Need-enum-told-4
 enum-told-4 c = search needs
 
--- src/lib.rt:322:27
+-- src/lib.rt:345:27
 enum-told-5 : tie.Need-enum-told-5
 enum-told-5 c = search needs
 
--- src/lib.rt:323:24
+-- src/lib.rt:346:24
 enum-told-6 : tie.Need-enum-told-6
 enum-told-6 c = search needs
 
--- src/lib.rt:324:29
+-- src/lib.rt:347:29
 enum-told-7 : tie.Need-enum-told-7
 enum-told-7 c = search needs
 
--- src/lib.rt:325:29
+-- src/lib.rt:348:29
 enum-told-8 : tie.Need-enum-told-8
 enum-told-8 c = search needs
 
--- src/lib.rt:326:37
+-- src/lib.rt:349:37
 enum-told-9 : tie.Need-enum-told-9
 enum-told-9 c = search needs
 
--- src/lib.rt:303:1
+-- src/lib.rt:333:1
 returns-2 : tie.Need-returns-2
-returns-2 c = ?
+unfolding banksAfter banksApplied reset
+returns-2 c = simp (c .enum-told .given .1, eq-eqb _ _ (c .before .before .if1 .left))
 
--- src/lib.rt:303:1
+-- src/lib.rt:333:1
 returns-3 : tie.Need-returns-3
-returns-3 c = ?
+unfolding banksAfter banksApplied reset
+returns-3 c = simp (c .enum-told2 .given .1, eq-eqb _ _ (c .before .before .if1 .left))
 
--- src/lib.rt:303:1
+-- src/lib.rt:333:1
 returns-4 : tie.Need-returns-4
-returns-4 c = ?
+unfolding banksAfter banksApplied reset
+returns-4 c = simp (c .banks-written .ensures, c .before .register-at .ensures, c .before .before .before .e .given .1, eq-eqb _ _ (c .before .before .before .before .before .if1 .left))
 
--- src/lib.rt:303:1
+-- src/lib.rt:333:1
 returns-5 : tie.Need-returns-5
-returns-5 c = ?
+unfolding banksAfter banksApplied reset
+returns-5 c = simp (c .enum-told3 .given .1, eq-eqb _ _ (c .before .before .if1 .left))
 
--- src/lib.rt:303:1
+-- src/lib.rt:333:1
 returns-6 : tie.Need-returns-6
-returns-6 c = ?
+unfolding banksAfter banksApplied reset
+returns-6 c = simp (c .enum-told4 .given .1, eq-eqb _ _ (c .before .before .if1 .left))
 
--- src/lib.rt:303:1
+-- src/lib.rt:333:1
 returns-7 : tie.Need-returns-7
-returns-7 c = ?
+unfolding banksAfter banksApplied reset
+returns-7 c = simp (c .enum-told5 .given .1, eq-eqb _ _ (c .before .before .if1 .left))
 
--- src/lib.rt:303:1
+-- src/lib.rt:333:1
 returns-8 : tie.Need-returns-8
-returns-8 c = ?
+unfolding banksAfter banksApplied reset
+returns-8 c = simp (c .enum-told6 .given .1, eq-eqb _ _ (c .before .before .if1 .left))
 
--- src/lib.rt:303:1
+-- src/lib.rt:333:1
 returns-9 : tie.Need-returns-9
-returns-9 c = ?
+unfolding banksAfter banksApplied reset
+returns-9 c = simp (c .enum-told7 .given .1, eq-eqb _ _ (c .before .before .if1 .left))
 
--- src/lib.rt:303:1
+-- src/lib.rt:333:1
 returns-10 : tie.Need-returns-10
-returns-10 c = ?
+unfolding banksAfter banksApplied reset
+returns-10 c = simp (c .enum-told8 .given .1, eq-eqb _ _ (c .before .before .if1 .left))
 
--- src/lib.rt:303:1
+-- src/lib.rt:333:1
 returns-11 : tie.Need-returns-11
-returns-11 c = ?
-
--- src/lib.rt:303:1
-returns-12 : tie.Need-returns-12
-returns-12 c = ?
-
--- src/lib.rt:303:1
-returns-13 : tie.Need-returns-13
-returns-13 c = ?
+unfolding banksAfter banksApplied reset
+returns-11 c = simp (c .enum-told9 .given .1, eq-eqb _ _ (c .before .before .if1 .left))
 
 pub banks-after-spec : {M : Type 1} → statement M
 banks-after-spec =
@@ -127,10 +121,7 @@ banks-after-spec =
     enum-told-2
     enum-known-e
     register-at-requires
-    enum-known-x
-    with-bank-word-requires
-    enum-known-x-2
-    with-bank-word-requires-2
+    banks-written-requires
     enum-told-3
     enum-told-4
     enum-told-5
@@ -147,6 +138,4 @@ banks-after-spec =
     returns-8
     returns-9
     returns-10
-    returns-11
-    returns-12
-    returns-13)
+    returns-11)

@@ -1,4 +1,5 @@
 use borrow.Author.Needs.{needs}
+use Rattle.model.specs.Registers.{reset}
 use Rattle.controller.proofs.core_reset.Statement.{statement}
 use Rattle.controller.proofs.core_reset.Tie as tie
 use Rattle.controller.proofs.core_reset.Reads as reads
@@ -26,7 +27,8 @@ control-reset-requires c κs = search needs
 
 -- src/lib.rt:27:1
 returns : tie.Need-returns
-returns c = ?
+unfolding reset
+returns c = simp (c .control-reset .ensures, c .before .no-requests .ensures, c .before .before .empty-fifo .ensures, c .before .before .before .empty-mailbox .ensures)
 
 pub core-reset-spec : {M : Type 1} → statement M
 core-reset-spec =

@@ -1,4 +1,5 @@
 use borrow.Author.Needs.{needs}
+use Rattle.model.specs.Step.{loopedBack}
 use Rattle.controller.proofs.looped_back.Statement.{statement}
 use Rattle.controller.proofs.looped_back.Tie as tie
 use Rattle.controller.proofs.looped_back.Reads as reads
@@ -26,11 +27,13 @@ acceptance-requires c κs = search needs
 
 -- src/lib.rt:81:9
 returns : tie.Need-returns
-returns c = ?
+unfolding loopedBack
+returns c = simp (c .acceptance .ensures, c .before .sent-frame .ensures, c .before .before .at .ensures, c .before .before .before .before .if1 .taken, ← (c .before .before .before .before .before .before .bit .ensures))
 
 -- src/lib.rt:73:1
 returns-2 : tie.Need-returns-2
-returns-2 c = ?
+unfolding loopedBack
+returns-2 c = simp (c .if1 .left, ← (c .before .before .bit .ensures))
 
 pub looped-back-spec : {M : Type 1} → statement M
 looped-back-spec =

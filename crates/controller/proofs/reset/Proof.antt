@@ -1,4 +1,5 @@
 use borrow.Author.Needs.{needs}
+use Rattle.model.specs.Registers.{reset}
 use Rattle.controller.proofs.reset.Statement.{statement}
 use Rattle.controller.proofs.reset.Tie as tie
 use Rattle.controller.proofs.reset.Reads as reads
@@ -11,7 +12,8 @@ core-reset-requires c κs = search needs
 
 -- src/lib.rt:61:1
 returns : tie.Need-returns
-returns c = ?
+unfolding reset
+returns c = simp (c .core-reset .ensures)
 
 pub reset-spec : {M : Type 1} → statement M
 reset-spec = tie.close (tie.spec core-reset-requires returns)

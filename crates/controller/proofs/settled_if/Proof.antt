@@ -21,7 +21,7 @@ settled-requires c κs = search needs
 
 -- src/lib.rt:271:1
 returns : tie.Need-returns
-returns c = ?
+returns c = simp (c .settled .ensures, c .before .boff .ensures, c .before .before .is-free .ensures)
 
 pub settled-if-spec : {M : Type 1} → statement M
 settled-if-spec = tie.close (tie.spec is-free-requires boff-requires settled-requires returns)

@@ -1,4 +1,5 @@
 use borrow.Author.Needs.{needs}
+use Rattle.model.specs.Step.{step, answered}
 use Rattle.controller.proofs.step.Statement.{statement}
 use Rattle.controller.proofs.step.Tie as tie
 use Rattle.controller.proofs.step.Reads as reads
@@ -31,7 +32,8 @@ lines-of-requires c κs = search needs
 
 -- src/lib.rt:331:1
 returns : tie.Need-returns
-returns c = ?
+unfolding step answered
+returns c = simp (c .lines-of .ensures, c .before .banks-after .ensures, c .before .before .core-after .ensures, c .before .before .before .before .word-of .ensures, c .before .before .before .before .before .before .refusal .ensures)
 
 pub step-spec : {M : Type 1} → statement M
 step-spec =

@@ -1,4 +1,6 @@
+use borrow.Author.Tests.{lt-ltb, le-ltb}
 use borrow.Author.Needs.{needs}
+use Rattle.model.specs.Registers.{withBankWord}
 use Rattle.controller.proofs.with_bank_word.Statement.{statement}
 use Rattle.controller.proofs.with_bank_word.Tie as tie
 use Rattle.controller.proofs.with_bank_word.Reads as reads
@@ -26,11 +28,13 @@ array-write-v c = search needs
 
 -- src/lib.rt:298:9
 returns : tie.Need-returns
-returns c = ?
+unfolding withBankWord
+returns c = simp (lt-ltb _ _ (c .if1 .taken))
 
 -- src/lib.rt:289:1
 returns-2 : tie.Need-returns-2
-returns-2 c = ?
+unfolding withBankWord
+returns-2 c = simp (le-ltb _ _ (c .if1 .left))
 
 pub with-bank-word-spec : {M : Type 1} → statement M
 with-bank-word-spec = tie.close (tie.spec mul-j add-j cast-j mul-v array-write-v returns returns-2)
