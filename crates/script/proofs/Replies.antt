@@ -1,6 +1,6 @@
 -- One record by the cases of its reading, and what is written of its reply.
 use mathlib.Core.Bool.{false}
-use mathlib.Core.Path.{_≡_, refl, sym, subst}
+use mathlib.Core.Path.{_≡_, refl, subst}
 use mathlib.Core.List.{List, [], _∷_}
 use Prim.Native.Nat.{ℕ, _≤_, _<_}
 use native.Mathlib.Omega.{arith}
@@ -10,12 +10,11 @@ use borrow.Author.Tests.{lt-ltb, le-ltb, ne-eqb}
 use Rattle.model.specs.Step.{step}
 use Rattle.model.specs.Script.{reading, reply, stayed, atEnd, passed, replayed, recordAt, replyOf, overwritten}
 use Rattle.model.specs.declared.Controller.{Controller}
-use Rattle.model.specs.declared.Reading.{Reading}
 use Rattle.model.specs.declared.Reading.the-variants.{End, Malformed, Found}
 use Rattle.model.specs.declared.Replayed.{Replayed}
 use Rattle.model.specs.declared.Stepped.{Stepped}
 use Rattle.model.specs.declared.Step as steps
-use Rattle.model.proofs.Readings.{code-small, Look, over, short, unknown, wrong, whole, look}
+use Rattle.model.proofs.Readings.{code-small, Look, short, unknown, wrong, look}
 
 -- ---- nine stores from the front
 

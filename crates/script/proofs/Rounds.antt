@@ -1,22 +1,21 @@
 -- The rounds of a replay: what holds after as many rounds as records, how one more carries it on, and where the replay stops.
 use mathlib.Core.Bool.{Bool, true, false, not, _&&_, _||_, true≢false}
 use mathlib.Core.Path.{_≡_, refl, sym, ap, _∙_}
-use mathlib.Core.List.{List, [], _∷_, _++_, append-assoc, append-nil}
-use Prim.Native.Nat.{ℕ, zero, suc, _+_, _-_, _*_, _≤_, _<_}
+use mathlib.Core.List.{List, [], _++_, append-assoc, append-nil}
+use Prim.Native.Nat.{ℕ, zero, suc, _+_, _-_, _*_, _≤_}
 use native.Mathlib.Nat.{add-zero, add-suc}
 use native.Mathlib.Numerals.{add-one}
 use native.Mathlib.Omega.{arith}
-use lib.Dec.{eqb, ltb, leb}
+use lib.Dec.{eqb, ltb}
 use lib.ListN.{length, take, drop, length-append, length-drop, drop-of-length-le}
 use lib.Seq.{length-take-le, take-all, take-at, drop-at, drop-drop}
 use borrow.Author.Tests.{ltb-false, ne-eqb}
 use Rattle.model.specs.Base.{pick}
-use Rattle.model.specs.Script.{reading, reply, stayed, atEnd, passed, replayed, recordAt, replyOf, overwritten, stops, Progress, begun, afterRecord, advanced, times, replay}
+use Rattle.model.specs.Script.{reply, recordAt, replyOf, overwritten, stops, Progress, begun, afterRecord, advanced, times, replay}
 use Rattle.model.specs.Scripts.{isEnd}
 use Rattle.model.specs.declared.Controller.{Controller}
 use Rattle.model.specs.declared.Replayed.{Replayed}
 use Rattle.model.specs.declared.Replay.{Replay}
-use Rattle.model.proofs.Choices.{pick-cases}
 use Rattle.model.proofs.Readings.{record-codes, record-within, record-advances}
 
 -- ---- a reply behind those before it

@@ -1,3 +1,4 @@
+-- A number match on the tag, as the definition chooses.
 use Rattle.model.specs.Script.{bodyLength}
 use borrow.Author.Tests.{ne-eqb}
 use Rattle.script.proofs.body_length.Statement.{statement}

@@ -1,3 +1,4 @@
+-- Each return by the tests that led to it.
 use Rattle.model.specs.Script.{reading}
 use borrow.Author.Tests.{eq-eqb, ne-eqb, lt-ltb, le-ltb, le-leb, lt-leb}
 use borrow.Author.Needs.{needs}

@@ -1,3 +1,4 @@
+-- Each return by what the reading was; a reply is written where the code is not 9.
 use mathlib.Core.Path.{sym, _∙_}
 use lib.ListN.{length}
 use Rattle.model.specs.Script.{replyOf}

@@ -1,3 +1,4 @@
+-- Both sides of one test.
 use Rattle.script.proofs.reply_length.Statement.{statement}
 use Rattle.script.proofs.reply_length.Tie as tie
 

@@ -1,3 +1,4 @@
+-- The lines are those of the state.
 use borrow.Author.Needs.{needs}
 use Rattle.script.proofs.unchanged.Statement.{statement}
 use Rattle.script.proofs.unchanged.Tie as tie

@@ -1,3 +1,4 @@
+-- Nine stores from the front, then what was there.
 use Prim.Native.Nat.{_/_, _%_}
 use native.Mathlib.Omega.{arith}
 use lib.ListN.{length-set}

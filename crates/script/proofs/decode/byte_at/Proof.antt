@@ -1,6 +1,6 @@
+-- Past the end of a part there is 0.
 use mathlib.Core.Path.{sym}
 use lib.ListN.{List·getD-eq-default}
-use borrow.Author.Tests.{le-ltb}
 use borrow.Author.Needs.{needs}
 use Rattle.script.proofs.decode.byte_at.Statement.{statement}
 use Rattle.script.proofs.decode.byte_at.Tie as tie

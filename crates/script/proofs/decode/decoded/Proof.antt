@@ -1,3 +1,4 @@
+-- Each tag by its decoder.
 use Rattle.model.specs.Script.{decoded}
 use borrow.Author.Tests.{ne-eqb}
 use borrow.Author.Needs.{needs}

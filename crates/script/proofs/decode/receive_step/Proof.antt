@@ -1,3 +1,4 @@
+-- The frame field by field.
 use borrow.Author.Needs.{needs}
 use Rattle.script.proofs.decode.receive_step.Statement.{statement}
 use Rattle.script.proofs.decode.receive_step.Tie as tie
