@@ -1,0 +1,90 @@
+use Prim.Native.Nat.{_-_, _≤_, _<_}
+use borrow.Author.Needs.{needs}
+use Rattle.registers_run.proofs.main.Statement.{statement}
+use Rattle.registers_run.proofs.main.Tie as tie
+use Rattle.registers_run.proofs.main.Reads as reads
+use Rattle.registers_run.proofs.main.Lts as lts
+use Rattle.controller.proofs.reset.Reads as reset-reads
+use Rattle.controller.proofs.step.Reads as step-reads
+use Rattle.io.proofs.print_decimal.Reads as print-decimal-reads
+use Rattle.io.proofs.write_all.Reads as write-all-reads
+use Rattle.registers_run.proofs.access.Reads as access-reads
+use Rattle.std.proofs.num.wrapping_add_u32.Reads as wrapping-add-u32-reads
+
+abbrev Inv-loop : tie.InvT-loop
+Inv-loop z₀ sum₀ i₀ t5 z sum i = (i ≤ 100000) × (sum < 4294967296)
+
+abbrev μ-loop : tie.MeasureT-loop
+μ-loop z₀ sum₀ i₀ t5 z sum i = 100000 - i
+
+-- src/main.rt:21:9
+reset-requires : tie.Need-reset-requires Inv-loop μ-loop
+reset-requires c κs = search needs
+
+-- src/main.rt:23:5
+loop-holds : tie.Need-loop-holds Inv-loop μ-loop
+loop-holds c = search needs
+
+-- src/main.rt:24:37
+access-requires : tie.Need-access-requires Inv-loop μ-loop
+access-requires c κs = search needs
+
+-- src/main.rt:24:13
+step-requires : tie.Need-step-requires Inv-loop μ-loop
+step-requires c κs = search needs
+
+-- src/main.rt:26:9
+wrapping-add-u32-requires : tie.Need-wrapping-add-u32-requires Inv-loop μ-loop
+wrapping-add-u32-requires c κs = search needs
+
+-- src/main.rt:23:9
+add-i : tie.Need-add-i Inv-loop μ-loop
+add-i c = search needs
+
+-- src/main.rt:23:5
+loop-less : tie.Need-loop-less Inv-loop μ-loop
+loop-less c = search needs
+
+-- src/main.rt:23:5
+loop-again : tie.Need-loop-again Inv-loop μ-loop
+loop-again c = search needs
+
+-- src/main.rt:28:38
+cast-print-decimal : tie.Need-cast-print-decimal Inv-loop μ-loop
+cast-print-decimal c = search needs
+
+-- src/main.rt:28:5
+print-decimal-requires : tie.Need-print-decimal-requires Inv-loop μ-loop
+print-decimal-requires c κs = search needs
+
+-- src/main.rt:29:34
+slice-aggregate-write-all : tie.Need-slice-aggregate-write-all Inv-loop μ-loop
+slice-aggregate-write-all c = search needs
+
+-- src/main.rt:29:5
+write-all-requires : tie.Need-write-all-requires Inv-loop μ-loop
+write-all-requires c κs = search needs
+
+-- src/main.rt:20:1
+returns : tie.Need-returns Inv-loop μ-loop
+returns c = search needs
+
+pub main-spec : {M : Type 1} → statement M
+main-spec =
+    tie.close
+    (tie.spec
+    Inv-loop
+    μ-loop
+    reset-requires
+    loop-holds
+    access-requires
+    step-requires
+    wrapping-add-u32-requires
+    add-i
+    loop-less
+    loop-again
+    cast-print-decimal
+    print-decimal-requires
+    slice-aggregate-write-all
+    write-all-requires
+    returns)
