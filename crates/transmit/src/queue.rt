@@ -317,10 +317,10 @@ pub fn aborted_all(q: Queue, f: MailboxBits) -> Queue
 pub fn sending(q: Queue, m: Mailbox) -> Queue
     ensures { λ r. ⌜ r ≡ queue.sending q m ⌝ }
 {
-    let o = q.order;
+    let requests = q.order;
     let f = q.aborts;
     Queue {
-        order: o,
+        order: requests,
         transmitting: Sender::From(m),
         aborts: f,
     }

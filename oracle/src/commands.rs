@@ -1,0 +1,227 @@
+//! The subcommands.
+
+use crate::book::Book;
+use crate::controller::Controller;
+use crate::generate::{generate, Kind, KINDS};
+use crate::malformed;
+use crate::probe::MISTAKES;
+use crate::script::{self, decode, Step, REPLY_LENGTH};
+use crate::shrink;
+use crate::USAGE;
+use std::fs::File;
+use std::io::{self, Read, Write};
+use std::os::fd::AsFd;
+
+const READ_TO_THE_END: u8 = 0;
+const DEMAND_VIOLATED: u8 = 1;
+const UNREADABLE_RECORD: u8 = 2;
+/// Replies are handed to the system in pieces of about this size.
+const PIECE: usize = 1 << 16;
+
+type Status = Result<u8, String>;
+
+pub fn run(words: &[&str]) -> Status {
+    match words {
+        ["replay", options @ ..] => {
+            choose_variant(options)?;
+            replay()
+        }
+        ["check", options @ ..] => {
+            choose_variant(options)?;
+            check()
+        }
+        ["generate", seed, records] => write_generated(seed, records, "mix"),
+        ["generate", seed, records, kind] => write_generated(seed, records, kind),
+        ["malformed", seed, count, folder] => malformed::write_files(number(seed)?, number(count)?, folder),
+        ["shrink", a, b, file] => shrink::shrink(a, b, file),
+        ["words"] => print_words(),
+        ["wrong-list"] => list_mistakes(),
+        #[cfg(wrong)]
+        ["tell-apart", seeds, records] => crate::tell_apart::tell_apart(number(seeds)?, number(records)?),
+        #[cfg(coverage)]
+        ["coverage", seeds, records] => crate::coverage::report(number(seeds)?, number(records)?, None),
+        #[cfg(coverage)]
+        ["coverage", seeds, records, kind] => {
+            crate::coverage::report(number(seeds)?, number(records)?, Some(kind_named(kind)?))
+        }
+        ["tell-apart", ..] => Err("tell-apart is in the binary built with --cfg wrong".into()),
+        ["coverage", ..] => Err("coverage is in the binary built with --cfg coverage".into()),
+        _ => Err(USAGE.into()),
+    }
+}
+
+fn number(word: &str) -> Result<u64, String> {
+    word.parse().map_err(|_| format!("{word:?} is not a number"))
+}
+
+fn kind_named(name: &str) -> Result<Kind, String> {
+    let names: Vec<&str> = KINDS.iter().map(|&(name, _)| name).collect();
+    Kind::by_name(name).ok_or(format!("kinds are: {}", names.join(", ")))
+}
+
+fn choose_variant(options: &[&str]) -> Result<(), String> {
+    match options {
+        [] => Ok(()),
+        #[cfg(wrong)]
+        ["--wrong", variant] => {
+            let variant = number(variant)?;
+            if variant > MISTAKES.len() as u64 {
+                return Err(format!("there are {} wrong variants", MISTAKES.len()));
+            }
+            crate::probe::switch_to(variant as u32);
+            Ok(())
+        }
+        #[cfg(not(wrong))]
+        ["--wrong", _] => Err("wrong variants are in the binary built with --cfg wrong".into()),
+        _ => Err(USAGE.into()),
+    }
+}
+
+fn standard_input() -> Result<Vec<u8>, String> {
+    let mut bytes = Vec::new();
+    io::stdin().lock().read_to_end(&mut bytes).map_err(|error| error.to_string())?;
+    Ok(bytes)
+}
+
+/// Standard output in pieces, past the line buffer of `io::stdout`. A reader
+/// that goes away early is no error.
+struct Replies {
+    bytes: Vec<u8>,
+    out: File,
+}
+
+impl Replies {
+    fn new() -> Result<Replies, String> {
+        let out = io::stdout().as_fd().try_clone_to_owned().map_err(|error| error.to_string())?;
+        Ok(Replies { bytes: Vec::with_capacity(PIECE + REPLY_LENGTH), out: File::from(out) })
+    }
+
+    #[inline]
+    fn push(&mut self, reply: &[u8]) {
+        self.bytes.extend_from_slice(reply);
+        if self.bytes.len() >= PIECE {
+            self.flush();
+        }
+    }
+
+    fn flush(&mut self) {
+        if self.out.write_all(&self.bytes).is_err() {
+            std::process::exit(0);
+        }
+        self.bytes.clear();
+    }
+}
+
+fn replay() -> Status {
+    let script = standard_input()?;
+    let mut replies = Replies::new()?;
+    let mut controller = Controller::at_reset();
+    let mut reply = [0; REPLY_LENGTH];
+    let (mut record, mut place) = (0u64, 0);
+    loop {
+        let progress = script::step(&mut controller, &script, place, &mut reply);
+        if progress.at_end {
+            replies.flush();
+            return Ok(READ_TO_THE_END);
+        }
+        replies.push(&reply);
+        if progress.answer.code >= 6 {
+            replies.flush();
+            say_unreadable(&script, record, place);
+            return Ok(UNREADABLE_RECORD);
+        }
+        record += 1;
+        place = progress.place;
+    }
+}
+
+fn say_unreadable(script: &[u8], record: u64, place: usize) {
+    if let Err(unreadable) = decode(&script[place..]) {
+        let (code, reason) = (unreadable.code(), unreadable.in_words());
+        eprintln!("record {record} at byte {place}: {reason} (code {code})");
+    }
+}
+
+fn check() -> Status {
+    let script = standard_input()?;
+    let mut replies = Replies::new()?;
+    let mut controller = Controller::at_reset();
+    let mut book = Book::default();
+    let mut reply = [0; REPLY_LENGTH];
+    let (mut record, mut place) = (0u64, 0);
+    let status = loop {
+        let progress = script::step(&mut controller, &script, place, &mut reply);
+        if progress.at_end {
+            break READ_TO_THE_END;
+        }
+        replies.push(&reply);
+        if progress.answer.code >= 6 {
+            say_unreadable(&script, record, place);
+            break UNREADABLE_RECORD;
+        }
+        let Ok((step, _)) = decode(&script[place..]) else { break UNREADABLE_RECORD };
+        let kept = book.feed(record, step, progress.answer).and_then(|()| book.check_tme(tsr_of(&controller)));
+        if let Err(violation) = kept {
+            eprintln!("record {record} at byte {place} ({}): {violation}", step.in_words());
+            break DEMAND_VIOLATED;
+        }
+        record += 1;
+        place = progress.place;
+    };
+    replies.flush();
+    eprintln!("{record} records, {} requests accepted, {} ended", book.accepted, book.ended);
+    Ok(status)
+}
+
+/// What a read of TSR would give.
+fn tsr_of(controller: &Controller) -> u32 {
+    controller.clone().read(0x08).word
+}
+
+fn write_generated(seed: &str, records: &str, kind: &str) -> Status {
+    let kind = kind_named(kind)?;
+    let mut replies = Replies::new()?;
+    replies.push(&generate(number(seed)?, number(records)?, kind));
+    replies.flush();
+    Ok(0)
+}
+
+fn print_words() -> Status {
+    let script = standard_input()?;
+    let mut out = Replies::new()?;
+    let mut place = 0;
+    while place < script.len() {
+        let line = match decode(&script[place..]) {
+            Ok((step, length)) => {
+                let bytes = &script[place..place + length];
+                place += length;
+                record_line(bytes, step)
+            }
+            Err(unreadable) => {
+                place = script.len();
+                format!("# {}", unreadable.in_words())
+            }
+        };
+        out.push(line.as_bytes());
+        out.push(b"\n");
+    }
+    out.flush();
+    Ok(0)
+}
+
+/// A record as hex, with a comment in words.
+pub fn record_line(bytes: &[u8], step: Step) -> String {
+    format!("{:<48} # {}", hex(bytes), step.in_words())
+}
+
+pub fn hex(bytes: &[u8]) -> String {
+    let words: Vec<String> = bytes.iter().map(|byte| format!("{byte:02X}")).collect();
+    words.join(" ")
+}
+
+fn list_mistakes() -> Status {
+    for (index, (name, text)) in MISTAKES.iter().enumerate() {
+        println!("{:3}  {name}: {text}", index + 1);
+    }
+    Ok(0)
+}

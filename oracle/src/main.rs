@@ -1,0 +1,51 @@
+//! A second implementation of the bench controller of document 01, with a
+//! generator of scripts and the tools to compare another one with it.
+#![allow(unexpected_cfgs)]
+
+mod book;
+mod commands;
+mod controller;
+#[cfg(coverage)]
+mod coverage;
+mod fifo;
+mod filter;
+mod generate;
+mod mailbox;
+mod malformed;
+mod probe;
+mod registers;
+mod rng;
+mod script;
+mod shrink;
+#[cfg(wrong)]
+mod tell_apart;
+#[cfg(test)]
+mod tests;
+
+use std::process::ExitCode;
+
+const USAGE: &str = "usage:
+  oracle replay                          script on standard input, replies on standard output
+  oracle check                           as replay, with the request book; 1 if demand 3 is violated
+  oracle generate SEED RECORDS [KIND]    a script by seed
+  oracle malformed SEED COUNT DIR        COUNT broken scripts as files in DIR
+  oracle shrink A B SCRIPT               the fewest records on which commands A and B differ
+  oracle words                           script on standard input, in words
+  oracle wrong-list                      the wrong variants by number
+ built with --cfg wrong:
+  oracle-wrong replay|check --wrong K    a wrong variant
+  oracle-wrong tell-apart SEEDS RECORDS  where each variant differs from the right one
+ built with --cfg coverage:
+  oracle-coverage coverage SEEDS RECORDS [KIND]  which branches the generated scripts reach";
+
+fn main() -> ExitCode {
+    let arguments: Vec<String> = std::env::args().skip(1).collect();
+    let words: Vec<&str> = arguments.iter().map(String::as_str).collect();
+    match commands::run(&words) {
+        Ok(status) => ExitCode::from(status),
+        Err(message) => {
+            eprintln!("{message}");
+            ExitCode::from(64)
+        }
+    }
+}

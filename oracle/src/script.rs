@@ -1,0 +1,238 @@
+//! The bench script: records in, replies out.
+
+use crate::controller::{Answer, Controller};
+use crate::fifo::Frame;
+use crate::here;
+use crate::probe::{made, Mistake};
+use crate::registers::Register;
+
+pub const REPLY_LENGTH: usize = 9;
+const HEADER_LENGTH: usize = 3;
+const REPLY_TAG: u8 = 0x81;
+
+/// One record of a script, read.
+#[derive(Clone, Copy, PartialEq, Eq, Debug)]
+pub enum Step {
+    Reset,
+    Read(u16),
+    Write(u16, u32),
+    Idle,
+    BitTimes(u16),
+    Activity,
+    Start,
+    OwnEnd(u8),
+    Frame(Frame),
+    ReceiveError { code: u8, step: u8 },
+}
+
+/// Why a record can't be read.
+#[derive(Clone, Copy, PartialEq, Eq, Debug)]
+pub enum Unreadable {
+    ShortHeader,
+    UnknownTag(u8),
+    WrongLength(u8, u16),
+    ShortBody,
+}
+
+impl Unreadable {
+    pub fn code(self) -> u8 {
+        match self {
+            Unreadable::ShortHeader | Unreadable::ShortBody => 6,
+            Unreadable::UnknownTag(_) => 7,
+            Unreadable::WrongLength(..) => 8,
+        }
+    }
+
+    pub fn in_words(self) -> String {
+        match self {
+            Unreadable::ShortHeader => "the header is short".into(),
+            Unreadable::UnknownTag(tag) => format!("tag {tag:02X} is unknown"),
+            Unreadable::WrongLength(tag, length) => format!("length {length} is wrong for tag {tag:02X}"),
+            Unreadable::ShortBody => "the body is short".into(),
+        }
+    }
+}
+
+const CODE_NO_REPLY_SPACE: u8 = 9;
+
+/// What one call of `step` gives back, beside the reply it writes.
+#[derive(Clone, Copy, PartialEq, Eq, Debug)]
+pub struct Progress {
+    pub answer: Answer,
+    /// Where the next record starts; for codes 6 to 9 the place as it was.
+    pub place: usize,
+    /// No record was left.
+    pub at_end: bool,
+}
+
+/// Does the record at `place` of the script and writes its reply to the
+/// start of `reply`. An empty rest is the end: no reply, nothing changed.
+pub fn step(controller: &mut Controller, script: &[u8], place: usize, reply: &mut [u8]) -> Progress {
+    let unchanged = |controller: &Controller, code: u8| Answer { code, lines: controller.lines(), word: 0 };
+    if place >= script.len() {
+        here!();
+        return Progress { answer: unchanged(controller, 0), place: script.len(), at_end: true };
+    }
+    let Some(reply) = reply.first_chunk_mut() else {
+        here!();
+        return Progress { answer: unchanged(controller, CODE_NO_REPLY_SPACE), place, at_end: false };
+    };
+    let (answer, next) = match decode(&script[place..]) {
+        Ok((step, length)) => (step.apply(controller), place + length),
+        Err(unreadable) => (unchanged(controller, unreadable.code()), place),
+    };
+    write_reply(reply, answer);
+    Progress { answer, place: next, at_end: false }
+}
+
+fn write_reply(reply: &mut [u8; REPLY_LENGTH], answer: Answer) {
+    let lines = if made(Mistake::RefusalLinesZero) && answer.code >= 6 { 0 } else { answer.lines };
+    let [w0, w1, w2, w3] = answer.word.to_le_bytes();
+    *reply = [REPLY_TAG, 6, 0, answer.code, lines, w0, w1, w2, w3];
+}
+
+/// The body length that belongs to a tag.
+pub fn body_length(tag: u8) -> Option<usize> {
+    Some(match tag {
+        0x01 | 0x04 | 0x06 | 0x07 => 0,
+        0x02 | 0x05 | 0x0A => 2,
+        0x03 => 6,
+        0x08 => 1,
+        0x09 => 13,
+        0x00 if made(Mistake::TagZeroIsReset) => 0,
+        _ => return None,
+    })
+}
+
+/// Reads the first record of a rest that isn't empty; gives its length too.
+pub fn decode(rest: &[u8]) -> Result<(Step, usize), Unreadable> {
+    if made(Mistake::UnknownTagBeforeShortHeader) && body_length(rest[0]).is_none() {
+        return Err(Unreadable::UnknownTag(rest[0]));
+    }
+    let Some(&[tag, low, high]) = rest.first_chunk::<HEADER_LENGTH>() else {
+        here!();
+        return Err(Unreadable::ShortHeader);
+    };
+    let Some(needed) = body_length(tag) else {
+        here!();
+        return Err(Unreadable::UnknownTag(tag));
+    };
+    let high = if made(Mistake::LowLengthByteOnly) { 0 } else { high };
+    let length = u16::from_le_bytes([low, high]);
+    let end = HEADER_LENGTH + length as usize;
+    if made(Mistake::ShortBodyBeforeLength) && rest.len() < end {
+        return Err(Unreadable::ShortBody);
+    }
+    let long = length as usize > needed && made(Mistake::LongerLengthAccepted);
+    if length as usize != needed && !long {
+        here!();
+        return Err(Unreadable::WrongLength(tag, length));
+    }
+    let Some(body) = rest.get(HEADER_LENGTH..end) else {
+        here!();
+        return Err(Unreadable::ShortBody);
+    };
+    Ok((Step::from_body(tag, body), end))
+}
+
+fn number_16(body: &[u8]) -> u16 {
+    u16::from_le_bytes([body[0], body[1]])
+}
+
+fn number_32(body: &[u8]) -> u32 {
+    u32::from_le_bytes([body[0], body[1], body[2], body[3]])
+}
+
+impl Step {
+    /// The step of a known tag whose body has the right length.
+    fn from_body(tag: u8, body: &[u8]) -> Step {
+        match tag {
+            0x02 => Step::Read(number_16(body)),
+            0x03 if made(Mistake::SwappedWordBytes) => Step::Write(number_16(body), number_32(&body[2..]).swap_bytes()),
+            0x03 => Step::Write(number_16(body), number_32(&body[2..])),
+            0x04 => Step::Idle,
+            0x05 => Step::BitTimes(number_16(body)),
+            0x06 => Step::Activity,
+            0x07 => Step::Start,
+            0x08 => Step::OwnEnd(body[0]),
+            0x09 => Step::Frame(Frame {
+                identifier: number_32(body),
+                length: body[4],
+                data: number_32(&body[5..]) as u64 | (number_32(&body[9..]) as u64) << 32,
+            }),
+            0x0A if made(Mistake::ReceiveErrorFieldsSwapped) => Step::ReceiveError { code: body[1], step: body[0] },
+            0x0A => Step::ReceiveError { code: body[0], step: body[1] },
+            _ => Step::Reset,
+        }
+    }
+
+    pub fn apply(self, controller: &mut Controller) -> Answer {
+        match self {
+            Step::Reset => controller.hardware_reset(),
+            Step::Read(offset) => controller.read(offset),
+            Step::Write(offset, word) => controller.write(offset, word),
+            Step::Idle => controller.idle(),
+            Step::BitTimes(count) => controller.bit_times(count),
+            Step::Activity => controller.activity(),
+            Step::Start => controller.start(),
+            Step::OwnEnd(result) => controller.own_end(result),
+            Step::Frame(frame) => controller.frame(frame),
+            Step::ReceiveError { code, step } => controller.receive_error(code, step),
+        }
+    }
+
+    /// Appends the record of this step to a script.
+    pub fn encode(self, script: &mut Vec<u8>) {
+        let mut record = |tag: u8, parts: &[&[u8]]| {
+            let length: usize = parts.iter().map(|part| part.len()).sum();
+            script.extend_from_slice(&[tag, length as u8, 0]);
+            parts.iter().for_each(|part| script.extend_from_slice(part));
+        };
+        match self {
+            Step::Reset => record(0x01, &[]),
+            Step::Read(offset) => record(0x02, &[&offset.to_le_bytes()]),
+            Step::Write(offset, word) => record(0x03, &[&offset.to_le_bytes(), &word.to_le_bytes()]),
+            Step::Idle => record(0x04, &[]),
+            Step::BitTimes(count) => record(0x05, &[&count.to_le_bytes()]),
+            Step::Activity => record(0x06, &[]),
+            Step::Start => record(0x07, &[]),
+            Step::OwnEnd(result) => record(0x08, &[&[result]]),
+            Step::Frame(frame) => {
+                record(0x09, &[&frame.identifier.to_le_bytes(), &[frame.length], &frame.data.to_le_bytes()])
+            }
+            Step::ReceiveError { code, step } => record(0x0A, &[&[code, step]]),
+        }
+    }
+
+    pub fn in_words(self) -> String {
+        let register = |offset: u16| match Register::at(offset) {
+            Some(register) => register.name(),
+            None => format!("offset 0x{offset:03X}, not in the map"),
+        };
+        match self {
+            Step::Reset => "hardware reset".into(),
+            Step::Read(offset) => format!("read {}", register(offset)),
+            Step::Write(offset, word) => format!("write {} 0x{word:08X}", register(offset)),
+            Step::Idle => "idle".into(),
+            Step::BitTimes(count) => format!("{count} bit times"),
+            Step::Activity => "activity".into(),
+            Step::Start => "start".into(),
+            Step::OwnEnd(0) => "own end, good".into(),
+            Step::OwnEnd(7) => "own end, arbitration lost".into(),
+            Step::OwnEnd(result) => format!("own end, result {result}"),
+            Step::Frame(frame) => frame_in_words(frame),
+            Step::ReceiveError { code, step } => format!("receive error {code}, step {step}"),
+        }
+    }
+}
+
+fn frame_in_words(frame: Frame) -> String {
+    let word = frame.identifier;
+    let kind = if frame.is_remote() { "remote" } else { "data" };
+    let identifier = match word & 4 {
+        0 => format!("standard 0x{:03X}", word >> 21),
+        _ => format!("extended 0x{:08X}", word >> 3),
+    };
+    let data = frame.data.to_le_bytes();
+    format!("frame {identifier} {kind} (word 0x{word:08X}), length {}, data {data:02X?}", frame.length)
+}

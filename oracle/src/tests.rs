@@ -1,0 +1,461 @@
+//! Document 01's numbers on the wall, its whole script, and some of the
+//! settled readings, each as a short history of steps.
+
+use crate::controller::{Answer, Controller, Mode};
+use crate::fifo::Frame;
+use crate::generate::{generate, KINDS};
+use crate::malformed::broken_script;
+use crate::rng::Rng;
+use crate::script::{decode, step, REPLY_LENGTH};
+
+const MCR: u16 = 0x00;
+const MSR: u16 = 0x04;
+const TSR: u16 = 0x08;
+const RF0R: u16 = 0x0C;
+const IER: u16 = 0x14;
+const ESR: u16 = 0x18;
+const BTR: u16 = 0x1C;
+const TI0: u16 = 0x180;
+const TDT0: u16 = 0x184;
+const RI0: u16 = 0x1B0;
+const RDT0: u16 = 0x1B4;
+const FMR: u16 = 0x200;
+const FM1R: u16 = 0x204;
+const FS1R: u16 = 0x20C;
+const FFA1R: u16 = 0x214;
+const FA1R: u16 = 0x21C;
+
+fn word(controller: &mut Controller, offset: u16) -> u32 {
+    let answer = controller.read(offset);
+    assert_eq!(answer.code, 0);
+    answer.word
+}
+
+fn write(controller: &mut Controller, offset: u16, word: u32) {
+    assert_eq!(controller.write(offset, word).code, 0, "write of {word:08X} to {offset:03X}");
+}
+
+/// In Normal with these options of MCR and FINIT=0.
+fn normal(options: u32) -> Controller {
+    let mut controller = Controller::at_reset();
+    write(&mut controller, MCR, options);
+    assert_eq!(controller.idle().code, 0);
+    assert_eq!(controller.mode(), Mode::Normal);
+    write(&mut controller, FMR, 0);
+    controller
+}
+
+fn own_frame(controller: &mut Controller, result: u8) {
+    if word(controller, TI0) & 1 == 0 {
+        write(controller, TI0, 1);
+    }
+    assert_eq!(controller.start().code, 0);
+    assert_eq!(controller.own_end(result).code, 0);
+}
+
+fn with_tec(options: u32, tec: u16) -> Controller {
+    let mut controller = normal(options);
+    while controller.tec() < tec {
+        own_frame(&mut controller, 1);
+    }
+    while controller.tec() > tec {
+        own_frame(&mut controller, 0);
+    }
+    controller
+}
+
+fn with_rec(rec: u16) -> Controller {
+    let mut controller = normal(0);
+    while controller.rec() < rec {
+        let step = if controller.rec() + 8 <= rec { 8 } else { 1 };
+        assert_eq!(controller.receive_error(2, step).code, 0);
+    }
+    controller
+}
+
+fn idles(controller: &mut Controller, count: u32) {
+    for _ in 0..count {
+        assert_eq!(controller.idle().code, 0);
+    }
+}
+
+fn data_frame(identifier: u32, byte: u64) -> Frame {
+    Frame { identifier, length: 1, data: byte }
+}
+
+#[test]
+fn reset_values() {
+    let mut controller = Controller::at_reset();
+    let expected = [(MCR, 0x0001_0002), (MSR, 0xC02), (TSR, 0x1C00_0000), (BTR, 0x0123_0000), (FMR, 0x2A1C_0E01)];
+    for offset in (0..0x400).step_by(4) {
+        let answer = controller.read(offset);
+        let listed = expected.iter().find(|&&(known, _)| known == offset);
+        assert_eq!(answer.word, listed.map_or(0, |&(_, value)| value), "{offset:03X}");
+    }
+}
+
+#[test]
+fn tec_247_and_an_error_is_still_on() {
+    let mut controller = with_tec(0, 247);
+    own_frame(&mut controller, 1);
+    assert_eq!(word(&mut controller, ESR) & 0x00FF_0007, 0x00FF_0003);
+    assert!(!controller.is_bus_off());
+}
+
+#[test]
+fn tec_248_and_an_error_is_bus_off_and_reads_0() {
+    let mut controller = with_tec(0, 248);
+    own_frame(&mut controller, 1);
+    assert_eq!(word(&mut controller, ESR) & 0x00FF_0007, 7);
+}
+
+#[test]
+fn rec_129_becomes_120_and_128_becomes_127() {
+    for (before, after) in [(129, 120), (128, 127), (255, 120), (1, 0), (0, 0)] {
+        let mut controller = with_rec(before);
+        controller.frame(data_frame(0, 0));
+        assert_eq!(controller.rec(), after);
+    }
+}
+
+#[test]
+fn timer_wraps() {
+    for (more, expected) in [(1, 0), (65535, 65534)] {
+        let mut controller = normal(0x80);
+        controller.bit_times(65535);
+        controller.bit_times(more);
+        write(&mut controller, TI0, 1);
+        controller.start();
+        assert_eq!(word(&mut controller, TDT0) >> 16, expected);
+    }
+}
+
+fn first_of(a: u32, b: u32) -> u32 {
+    let mut controller = normal(0);
+    write(&mut controller, TI0, a | 1);
+    write(&mut controller, TI0 + 0x10, b | 1);
+    controller.start().word
+}
+
+#[test]
+fn order_by_identifier() {
+    let standard = |id: u32| id << 21;
+    let extended = |id: u32| id << 3 | 4;
+    assert_eq!(first_of(extended(0x0400_0000), standard(0x100)), 1);
+    assert_eq!(first_of(standard(0x002), extended(0x0004_0000)), 1);
+    assert_eq!(first_of(standard(5) | 2, standard(5)), 1);
+    assert_eq!(first_of(extended(5 << 18), standard(5) | 2), 1);
+    assert_eq!(first_of(extended(7) | 2, extended(7)), 1);
+    assert_eq!(first_of(standard(5) | 0x1F_FFF8, standard(5)), 0);
+}
+
+fn four_frames(options: u32) -> Vec<u32> {
+    let mut controller = normal(options);
+    write(&mut controller, FMR, 1);
+    write(&mut controller, FA1R, 1);
+    write(&mut controller, FMR, 0);
+    for id in 1..=4 {
+        assert_eq!(controller.frame(data_frame(id << 21, 0)).code, 0);
+    }
+    assert_eq!(word(&mut controller, RF0R), 0x1B);
+    let mut seen = Vec::new();
+    for _ in 0..3 {
+        seen.push(word(&mut controller, RI0) >> 21);
+        write(&mut controller, RF0R, 0x20);
+    }
+    assert_eq!(word(&mut controller, RF0R), 0x18);
+    assert_eq!(word(&mut controller, RI0), 0);
+    seen
+}
+
+#[test]
+fn overrun_unlocked_and_locked() {
+    assert_eq!(four_frames(0), [1, 2, 4]);
+    assert_eq!(four_frames(8), [1, 2, 3]);
+}
+
+#[test]
+fn last_bank_of_16_bit_lists_is_numbered_52_to_55() {
+    let mut controller = normal(0);
+    write(&mut controller, FMR, 1);
+    write(&mut controller, FM1R, 0x3FFF);
+    write(&mut controller, 0x240 + 8 * 13, 1 << 5 | 2 << 21);
+    write(&mut controller, 0x244 + 8 * 13, 3 << 5 | 4 << 21);
+    write(&mut controller, FA1R, 1 << 13);
+    write(&mut controller, FMR, 0);
+    for (id, number) in [(1, 52), (2, 53), (3, 54), (4, 55)] {
+        controller.frame(data_frame(id << 21, 0));
+        assert_eq!(word(&mut controller, RDT0) >> 8, number);
+        write(&mut controller, RF0R, 0x20);
+    }
+}
+
+#[test]
+fn recovery_takes_128_idles() {
+    let mut controller = with_tec(0x40, 256);
+    for _ in 0..127 {
+        controller.idle();
+    }
+    assert_eq!(word(&mut controller, ESR) & 4, 4);
+    controller.idle();
+    assert_eq!(word(&mut controller, ESR), 0x10);
+}
+
+#[test]
+fn recovery_by_initialization() {
+    let mut controller = with_tec(0, 256);
+    idles(&mut controller, 200);
+    assert!(controller.is_bus_off());
+    write(&mut controller, MCR, 1);
+    write(&mut controller, MCR, 0);
+    idles(&mut controller, 128);
+    assert!(controller.is_bus_off(), "the idle that leads into Normal does not count");
+    controller.idle();
+    assert!(!controller.is_bus_off());
+}
+
+#[test]
+fn bus_off_and_initialization_in_one_step() {
+    let mut controller = with_tec(0, 248);
+    controller.start();
+    write(&mut controller, MCR, 1);
+    assert_eq!(controller.mode(), Mode::Normal);
+    controller.own_end(4);
+    assert_eq!(controller.mode(), Mode::Initialization);
+    write(&mut controller, MCR, 0);
+    idles(&mut controller, 129);
+    assert!(!controller.is_bus_off());
+}
+
+#[test]
+fn whole_script() {
+    let script = [1, 0, 0, 2, 2, 0, 0, 0, 2, 2, 0, 4, 0, 2, 2, 0, 0xB0, 2];
+    let expected: [[u8; REPLY_LENGTH]; 4] = [
+        [0x81, 6, 0, 0, 0, 0, 0, 0, 0],
+        [0x81, 6, 0, 0, 0, 2, 0, 1, 0],
+        [0x81, 6, 0, 0, 0, 2, 0x0C, 0, 0],
+        [0x81, 6, 0, 1, 0, 0, 0, 0, 0],
+    ];
+    let mut controller = Controller::at_reset();
+    let mut place = 0;
+    for reply in expected {
+        let mut space = [0xAA; 12];
+        let progress = step(&mut controller, &script, place, &mut space);
+        assert_eq!(space[..REPLY_LENGTH], reply);
+        assert_eq!(space[REPLY_LENGTH..], [0xAA; 3]);
+        place = progress.place;
+    }
+    let end = step(&mut controller, &script, place + 100, &mut []);
+    assert!(end.at_end);
+    assert_eq!((end.place, end.answer), (script.len(), Answer::default()));
+}
+
+#[test]
+fn unreadable_records_in_order() {
+    let cases: [(&[u8], usize, u8); 9] = [
+        (&[0x01], 8, 9),
+        (&[0x01], 9, 6),
+        (&[0xFF, 0x00], 9, 6),
+        (&[0xFF, 0x00, 0x00], 9, 7),
+        (&[0x00, 0x00, 0x00], 9, 7),
+        (&[0x02, 0x03, 0x00], 9, 8),
+        (&[0x02, 0x02, 0x01, 0x00, 0x00], 9, 8),
+        (&[0x02, 0x02, 0x00, 0x00], 9, 6),
+        (&[0x0B, 0x00, 0x00], 9, 7),
+    ];
+    for (script, space, code) in cases {
+        let mut controller = Controller::at_reset();
+        let mut reply = [0x55; 9];
+        let progress = step(&mut controller, script, 0, &mut reply[..space]);
+        assert_eq!((progress.answer.code, progress.place, progress.at_end), (code, 0, false));
+        assert_eq!(reply[3], if code == 9 { 0x55 } else { code });
+        assert_eq!(controller, Controller::at_reset());
+    }
+}
+
+#[test]
+fn low_and_code_put_the_wire_first() {
+    let mut controller = normal(0);
+    for x in 0..3 {
+        write(&mut controller, TI0 + 0x10 * x, 5 << 21 | 1);
+    }
+    assert_eq!(word(&mut controller, TSR), 0x8200_0000);
+    assert_eq!(controller.start().word, 0);
+    write(&mut controller, TSR, 0x0080_0000);
+    assert_eq!(word(&mut controller, TSR) >> 24, 0x52);
+    assert_eq!(controller.own_end(7).code, 0);
+    assert_eq!(word(&mut controller, TSR) >> 24, 0x52);
+}
+
+#[test]
+fn remembered_abort() {
+    let mut controller = normal(0);
+    write(&mut controller, TI0, 1);
+    controller.start();
+    write(&mut controller, TSR, 0x80);
+    assert_eq!(word(&mut controller, TSR) & 0xFF, 0x80);
+    controller.own_end(7);
+    assert_eq!(word(&mut controller, TSR), 0x1C00_0005);
+    assert_eq!(word(&mut controller, TI0), 0);
+}
+
+#[test]
+fn fifo_0_only_breaks_ties_of_numbers() {
+    let mut controller = normal(0);
+    write(&mut controller, FMR, 1);
+    // Bank 0 (FIFO 0) is number 0 and doesn't match; bank 1 (FIFO 0) is number 1; bank 2 (FIFO 1) number 0.
+    write(&mut controller, FS1R, 7);
+    write(&mut controller, FFA1R, 4);
+    write(&mut controller, 0x240, 0xFFFF_FFFF);
+    write(&mut controller, 0x244, 0xFFFF_FFFF);
+    write(&mut controller, FA1R, 7);
+    write(&mut controller, FMR, 0);
+    controller.frame(data_frame(9 << 21, 0));
+    assert_eq!(word(&mut controller, RF0R), 0);
+    assert_eq!(word(&mut controller, RDT0 + 0x10), 1);
+}
+
+#[test]
+fn activity_with_both_requests_ends_in_initialization() {
+    let mut controller = Controller::at_reset();
+    write(&mut controller, IER, 0x0003_0000);
+    write(&mut controller, MCR, 0x23);
+    assert_eq!(controller.mode(), Mode::Sleep);
+    assert_eq!(controller.activity(), Answer { code: 0, lines: 8, word: 0 });
+    assert_eq!(controller.mode(), Mode::Initialization);
+    assert_eq!(word(&mut controller, MCR), 0x21);
+}
+
+#[test]
+fn generated_scripts_have_their_length_and_are_read_to_the_end() {
+    for (_, kind) in KINDS {
+        let script = generate(7, 3000, kind);
+        let (mut place, mut records) = (0, 0);
+        while place < script.len() {
+            place += decode(&script[place..]).expect("well-formed").1;
+            records += 1;
+        }
+        assert_eq!(records, 3000);
+    }
+}
+
+#[test]
+fn malformed_scripts_break() {
+    for index in 0..2000 {
+        let script = broken_script(3, index);
+        let mut place = 0;
+        let mut broken = script.is_empty();
+        while place < script.len() {
+            match decode(&script[place..]) {
+                Ok((_, length)) => place += length,
+                Err(_) => {
+                    broken = true;
+                    break;
+                }
+            }
+        }
+        assert!(broken, "script {index} is read to its end");
+    }
+}
+
+/// The bits of a frame up to the end of arbitration, as they are on the wire.
+fn arbitration_bits(word: u32) -> Vec<u32> {
+    let rtr = word >> 1 & 1;
+    let mut bits: Vec<u32> = (21..32).rev().map(|place| word >> place & 1).collect();
+    if word & 4 == 0 {
+        bits.extend([rtr, 0]);
+    } else {
+        bits.extend([1, 1]);
+        bits.extend((3..21).rev().map(|place| word >> place & 1));
+        bits.push(rtr);
+    }
+    bits
+}
+
+#[test]
+fn order_is_that_of_the_bits_on_the_wire() {
+    let mut rng = Rng::new(11);
+    let near = |rng: &mut Rng| match rng.below(3) {
+        0 => rng.word() & !1,
+        1 => rng.pick(&[0x2000_0000, 0x2020_0000]) | rng.word() & 0x0004_000E,
+        _ => 0x2000_0000 | rng.word() & 6,
+    };
+    for _ in 0..20_000 {
+        let (a, b) = (near(&mut rng), near(&mut rng));
+        let b_first = arbitration_bits(b) < arbitration_bits(a);
+        assert_eq!(first_of(a, b), b_first as u32, "{a:08X} {b:08X}");
+    }
+}
+
+/// Every filter of every active bank, one by one: the best of those that match.
+fn plain_search(words: [u32; 4], values: &[[u32; 2]], identifier: u32) -> Option<(u32, u32)> {
+    let [mode, scale, assignment, active] = words;
+    let narrow =
+        (identifier >> 21 << 5) | (identifier >> 1 & 1) << 4 | (identifier >> 2 & 1) << 3 | (identifier >> 18 & 7);
+    let mut next = [0, 0];
+    let mut hits = Vec::new();
+    for bank in 0..14 {
+        let bit = |word: u32| word >> bank & 1;
+        let [r1, r2] = values[bank];
+        let all = u32::MAX;
+        let filters: Vec<(u32, u32, u32)> = match (bit(scale), bit(mode)) {
+            (1, 0) => vec![(identifier, r1, r2)],
+            (1, _) => vec![(identifier, r1, all), (identifier, r2, all)],
+            (_, 0) => [r1, r2].map(|r| (narrow, r & 0xFFFF, r >> 16)).to_vec(),
+            _ => [r1 & 0xFFFF, r1 >> 16, r2 & 0xFFFF, r2 >> 16].map(|r| (narrow, r, all)).to_vec(),
+        };
+        let fifo = bit(assignment);
+        for (word, value, mask) in filters {
+            let number = next[fifo as usize];
+            next[fifo as usize] += 1;
+            if bit(active) == 1 && (word ^ value) & mask == 0 {
+                hits.push((1 - bit(scale), 1 - bit(mode), number, fifo));
+            }
+        }
+    }
+    hits.into_iter().min().map(|(_, _, number, fifo)| (number, fifo))
+}
+
+#[test]
+fn filters_take_what_a_plain_search_finds() {
+    let mut rng = Rng::new(5);
+    let pool = [0x2000_0000u32, 0x2000_0002, 0x2000_0004, 0x2010_000C, 0x2004_0004, 0xFFE0_0000];
+    for _ in 0..3000 {
+        let words = [rng.word(), rng.word(), rng.word(), rng.word()].map(|word| word & 0x3FFF);
+        let narrow = |word: u32| word >> 21 << 5 | (word >> 1 & 1) << 4 | (word >> 2 & 1) << 3 | word >> 18 & 7;
+        let values: Vec<[u32; 2]> = (0..14)
+            .map(|_| {
+                [0, 1].map(|_| match rng.below(5) {
+                    0 => rng.pick(&pool),
+                    1 => narrow(rng.pick(&pool)) | narrow(rng.pick(&pool)) << 16,
+                    2 => narrow(rng.pick(&pool)) | 0xFFE0_0000,
+                    3 => rng.pick(&[0, 1, u32::MAX, 0xFFE0_0000]),
+                    _ => rng.word(),
+                })
+            })
+            .collect();
+        let mut controller = normal(0);
+        write(&mut controller, FMR, 1);
+        for (offset, word) in [FM1R, FS1R, FFA1R, FA1R].into_iter().zip(words) {
+            write(&mut controller, offset, word);
+        }
+        for (bank, value) in values.iter().enumerate() {
+            write(&mut controller, 0x240 + 8 * bank as u16, value[0]);
+            write(&mut controller, 0x244 + 8 * bank as u16, value[1]);
+        }
+        write(&mut controller, FMR, 0);
+        for identifier in pool {
+            let expected = plain_search(words, &values, identifier);
+            controller.frame(data_frame(identifier, 0));
+            for fifo in 0..2u16 {
+                let stored = word(&mut controller, RF0R + 4 * fifo) & 3 != 0;
+                assert_eq!(stored, expected.is_some_and(|(_, taken)| taken == fifo as u32));
+                if stored {
+                    let number = word(&mut controller, RDT0 + 0x10 * fifo) >> 8 & 0xFF;
+                    assert_eq!(Some((number, fifo as u32)), expected);
+                    write(&mut controller, RF0R + 4 * fifo, 0x20);
+                }
+            }
+        }
+    }
+}
