@@ -13,18 +13,8 @@ use model::RequestOrder;
 use model::Sender;
 use model::Transmit;
 
-// What is sent of an identifier word: EXID of a standard one as 0.
-pub fn sent_identifier(ti: u32) -> u32
-    ensures { λ r. ⌜ r ≡ mailboxes.sentIdentifier ti ⌝ }
-{
-    if bit(2, ti) {
-        return ti;
-    }
-    (ti >> 21) * 2097152 + (ti >> 1) % 2 * 2
-}
-
-// The bits on the wire, the lower first: the top 11, then standard data, standard remote, extended, then the low 18,
-// then data before remote.
+// A number that orders identifier words as the bits on the wire do: the top 11, then standard data, standard remote,
+// extended, then the low 18, then data before remote.
 fn wire_key(ti: u32) -> u32
     ensures { λ r. ⌜ r ≡ mailboxes.wireKey ti ⌝ }
 {
