@@ -24,6 +24,7 @@ pub mod Exampled
 pub mod FifoRanges
 pub mod MailboxRanges
 pub mod Masks
+pub mod Pieces
 pub mod QueueRanges
 pub mod Reached
 pub mod Readings

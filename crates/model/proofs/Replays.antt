@@ -35,7 +35,7 @@ unfolding times
 times-fixed zero f x h = refl
 times-fixed (suc n) f x h = ap f (times-fixed n f x h) ∙ h
 
-times-more : {A : Type 0} (n k : ℕ) (f : A → A) (x : A) → f (times n f x) ≡ times n f x → times (n + k) f x ≡ times n f x
+pub times-more : {A : Type 0} (n k : ℕ) (f : A → A) (x : A) → f (times n f x) ≡ times n f x → times (n + k) f x ≡ times n f x
 unfolding times
 times-more n zero f x h = rw add-zero
 times-more n (suc k) f x h = rw add-suc (ap f (times-more n k f x h) ∙ h)
@@ -108,7 +108,7 @@ further x a q = record {
 }
 
 -- a step's own code does not stop the replay
-own-goes : (k : ℕ) → k ≤ 5 → stops false k ≡ false
+pub own-goes : (k : ℕ) → k ≤ 5 → stops false k ≡ false
 own-goes k h = rw (lt-leb 6 k (omega arith))
 
 further-is : (x : Progress) (a : Stepped) (q : ℕ) → a .code ≤ 5 → afterRecord x (passed a q) ≡ further x a q

@@ -1,11 +1,11 @@
 -- What is promised of scripts: the codes 6 to 9 of a record as a table, a replay as the fold of the step, where it stops,
--- and the whole script of the example. Document 01: "Refusal numbers", "Bench script", "Numbers on the wall".
+-- a script in pieces, and the whole script of the example. Document 01: "Refusal numbers", "Bench script", "Numbers on the wall".
 use mathlib.Core.Bool.{Bool, true, false, not, _&&_, _||_}
 use mathlib.Core.Path.{_≡_}
-use mathlib.Core.List.{List, [], _∷_, _++_}
+use mathlib.Core.List.{List, [], _∷_, _++_, flatten}
 use Prim.Native.Nat.{ℕ, zero, suc, _+_, _-_, _*_, _/_, _≤_}
 use lib.Dec.{eqb, ltb, leb}
-use lib.ListN.{length, take}
+use lib.ListN.{length, take, drop}
 use Rattle.model.specs.Base.{pick}
 use Rattle.model.specs.Step.{step}
 use Rattle.model.specs.Requests.{after}
@@ -104,6 +104,59 @@ pub record StopsBehind (z : Controller) (s : List ℕ) (space : ℕ) (x : Progre
 pub record Replays (z : Controller) (s : List ℕ) (space : ℕ) : Type 0 where
   pub folds : FoldsSteps z s space (replay z s space)
   pub stop : StopsBehind z s space (replay z s space)
+
+-- ---- a script in pieces
+
+-- a replay that stopped at the end of a piece, or at a record that is cut short there, goes on with the next piece
+abbrev pub goesOn : Bool → ℕ → Bool
+goesOn ended code = ended || eqb code 6
+
+-- the replay x of a piece, and then y of what x left: the reply to the record at which x stopped is held back
+unfoldable pub followed : Progress → Progress → Progress
+followed x y = record {
+  result = record {
+    controller = y .result .controller;
+    place = x .result .place + y .result .place;
+    records = x .result .records + y .result .records;
+    written = 9 * x .result .records + y .result .written;
+    ended = y .result .ended;
+    code = y .result .code;
+    lines = y .result .lines;
+    word = y .result .word;
+  };
+  replies = take (9 * x .result .records) (x .replies) ++ y .replies;
+}
+
+-- what the replay x of a script leaves of it
+abbrev pub leftBy : Progress → List ℕ → List ℕ
+leftBy x s = drop (x .result .place) s
+
+-- the replay of b behind what the replay x of a left gives what a and b give as one script, in a reply space of so many bytes
+abbrev pub Resumes : Controller → (a b : List ℕ) → Progress → ℕ → Type 0
+Resumes z a b x space =
+    9 * x .result .records ≤ space → replay z (a ++ b) space ≡ followed x (replay (x .result .controller) (leftBy x a ++ b) (space - 9 * x .result .records))
+
+unfoldable pub afterPiece : Progress → List ℕ → (Controller → List ℕ → Progress) → Progress
+afterPiece x s f = pick (goesOn (x .result .ended) (x .result .code)) (followed x (f (x .result .controller) (leftBy x s))) x
+
+-- the replay of a script that is read in pieces, each replayed behind what is left of those before it, with one reply space
+-- for all; where the input ends, what is left is replayed with nothing behind it
+unfoldable pub inPieces : ℕ → List (List ℕ) → Controller → List ℕ → Progress
+inPieces space [] z left = replay z left space
+inPieces space (b ∷ l) z left = afterPiece (replay z (left ++ b) space) (left ++ b) (inPieces space l)
+
+-- each piece that is replayed fits behind what is left of those before it, in a script space of n bytes
+unfoldable pub Fit : ℕ → ℕ → List (List ℕ) → Controller → List ℕ → Type 0
+Fit n space [] z left = length left ≤ n
+Fit n space (b ∷ l) z left =
+    let x : Progress = replay z (left ++ b) space in
+    (length (left ++ b) ≤ n) × (goesOn (x .result .ended) (x .result .code) ≡ true → Fit n space l (x .result .controller) (leftBy x (left ++ b)))
+
+-- if no piece lacked reply space, the pieces give what the whole script gives in any space that holds its replies; nine
+-- bytes for every three of the script space, and nine more, are enough for each piece
+pub record InPieces (space : ℕ) (l : List (List ℕ)) (z : Controller) : Type 0 where
+  pub whole : (all : ℕ) → eqb (inPieces space l z [] .result .code) 9 ≡ false → inPieces space l z [] .result .written ≤ all → replay z (flatten l) all ≡ inPieces space l z []
+  pub enough : (n : ℕ) → 9 * (n / 3) + 9 ≤ space → Fit n space l z [] → eqb (inPieces space l z [] .result .code) 9 ≡ false
 
 -- ---- the whole script of document 01: reset, and reads of MCR, MSR and an offset that is not in the map
 
