@@ -200,10 +200,10 @@ accepted rest z s m g e h =
     let w : Waits (z′ .core .transmit .queue) m = subst (λ (x : View). Waits (x .queue) m) (sym at) (accepted-waits d m g new) in
     served m _ _ _ (ahead-two (z′ .core .transmit .queue .order) m) (waits rest z′ m (step-sound z s g) w h)
 
-after-append : (z : Controller) (l : List steps.Step) (s : steps.Step) → after z (l ++ s ∷ []) ≡ step (after z l) s .controller
+pub after-append : (z : Controller) (l m : List steps.Step) → after z (l ++ m) ≡ after (after z l) m
 unfolding after
-after-append z [] s = refl
-after-append z (t ∷ l) s = after-append (step z t .controller) l s
+after-append z [] m = refl
+after-append z (s ∷ l) m = after-append (step z s .controller) l m
 
 -- ---- TME in a TSR read
 
@@ -263,6 +263,7 @@ tsr-word z = refl
 -- ---- demand 3
 
 pub fairness : (l : List steps.Step) → Fairness l
+unfolding after
 fairness l = record {
   read = tsr-code (after reset l);
   empty = λ m. empty m;
@@ -278,4 +279,4 @@ fairness l = record {
     claim : (before : List steps.Step) (s : steps.Step) (rest : List steps.Step) (m : Mailbox) → event (entry s (step (after reset before) s)) ≡ accepts m
         → Claim (requestsAt (before ++ s ∷ [])) m (entriesFrom (before ++ s ∷ []) rest)
     claim before s rest m a =
-        rw (requests-at (before ++ s ∷ []), after-append reset before s) (accepted rest (after reset before) s m (sound-at before) a)
+        rw (requests-at (before ++ s ∷ []), after-append reset before (s ∷ [])) (accepted rest (after reset before) s m (sound-at before) a)

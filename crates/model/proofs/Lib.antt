@@ -24,6 +24,7 @@ pub mod Exampled
 pub mod FifoRanges
 pub mod MailboxRanges
 pub mod Masks
+pub mod Parts
 pub mod Pieces
 pub mod QueueRanges
 pub mod Reached

@@ -1,220 +1,29 @@
 -- A script replayed in pieces gives what the whole script gives.
 use mathlib.Core.Bool.{Bool, true, false, not, _&&_, _||_, and-false, true≢false, false≢true}
-use mathlib.Core.Path.{_≡_, refl, sym, ap, _∙_, subst}
+use mathlib.Core.Path.{_≡_, refl, sym, ap, _∙_}
 use mathlib.Core.List.{List, [], _∷_, _++_, append-assoc, append-nil, flatten}
-use Prim.Native.Nat.{ℕ, zero, suc, _+_, _-_, _*_, _/_, _≤_, _<_, min}
-use native.Mathlib.Nat.{add-zero, add-suc, zero-add, suc-add, zero-min, min-zero, suc-min-suc}
+use Prim.Native.Nat.{ℕ, zero, suc, _+_, _-_, _*_, _/_, _≤_, min}
+use native.Mathlib.Nat.{add-zero}
 use native.Mathlib.Omega.{arith}
-use lib.Dec.{eqb, ltb, leb}
-use lib.ListN.{length, getD, take, drop, length-append, length-drop, List·getD-append}
-use lib.Seq.{take-all, take-at, take-append-le, take-append-add, drop-append-le, drop-drop, getD-drop}
-use borrow.Author.Tests.{ltb-true, ltb-false, leb-true, leb-false, lt-ltb, le-ltb, le-leb, lt-leb, eq-eqb, ne-eqb}
+use lib.Dec.{eqb, ltb}
+use lib.ListN.{length, take, drop, length-append, length-drop}
+use lib.Seq.{take-all, take-at, take-append-add, drop-append-le}
+use borrow.Author.Tests.{ltb-true, le-ltb, eqb-true}
 use Rattle.model.specs.Base.{pick}
 use Rattle.model.specs.Step.{step}
 use Rattle.model.specs.Requests.{after}
-use Rattle.model.specs.Script.{byteAt, number16, isTag, bodyLength, decoded, part, reading, reply, replayed, recordAt, replyOf, stops, Progress, replay, stepsBy, stepsFrom, stepsOf, repliesTo}
-use Rattle.model.specs.Scripts.{isEnd, headerShort, tagUnknown, lengthWrong, bodyShort, behind, stepAt, answeredSteps, lastAnswer, placeBy, placeAfter, goesOn, followed, leftBy, Resumes, afterPiece, inPieces, Fit, InPieces}
+use Rattle.model.specs.Script.{byteAt, bodyLength, reading, reply, replayed, recordAt, replyOf, stops, Progress, replay, stepsBy, stepsFrom, stepsOf, repliesTo}
+use Rattle.model.specs.Scripts.{answerable, headerShort, tagUnknown, lengthWrong, bodyShort, answeredSteps, lastAnswer, placeAfter, goesOn, followed, leftBy, Resumes, afterPiece, inPieces, Fit, InPieces}
 use Rattle.model.specs.declared.Controller.{Controller}
 use Rattle.model.specs.declared.Reading.{Reading}
 use Rattle.model.specs.declared.Reading.the-variants.{End, Malformed, Found}
 use Rattle.model.specs.declared.Replayed.{Replayed}
 use Rattle.model.specs.declared.Step as steps
-use Rattle.model.proofs.Choices.{pick-cases}
+use Rattle.model.proofs.Choices.{and-r, pick-cases}
+use Rattle.model.proofs.Fair.{after-append}
 use Rattle.model.proofs.Readings.{code-small, record-codes, Look, over, short, unknown, wrong, whole, look}
-use Rattle.model.proofs.Replays.{steps-more, steps-on, place-within, own-goes, replays}
-
--- ---- a record read in a part of the script
-
--- a reading at a place that is counted from p bytes further to the front
-abbrev shifted : ℕ → Reading → Reading
-shifted p End = End
-shifted p (Malformed k) = Malformed k
-shifted p (Found e q) = Found e (p + q)
-
--- what is read, from the tests in their order
-abbrev read : (e h t w b : Bool) → steps.Step → ℕ → Reading
-read e h t w b d q = pick e End (pick h (Malformed 6) (pick t (Malformed 7) (pick w (Malformed 8) (pick b (Malformed 6) (Found d q)))))
-
-read-shifted : (e h t w b : Bool) (d : steps.Step) (p q : ℕ) → read e h t w b d (p + q) ≡ shifted p (read e h t w b d q)
-read-shifted true h t w b d p q = refl
-read-shifted false true t w b d p q = refl
-read-shifted false false true w b d p q = refl
-read-shifted false false false true b d p q = refl
-read-shifted false false false false true d p q = refl
-read-shifted false false false false false d p q = refl
-
-reading-read : (s : List ℕ) (p : ℕ) → reading s p ≡ read (isEnd s p) (headerShort s p) (tagUnknown s p) (lengthWrong s p) (bodyShort s p) (stepAt s p) (behind s p)
-unfolding reading
-reading-read s p = refl
-
--- the body of a record has the length that its tag has
-abbrev bodyAt : List ℕ → ℕ → List ℕ
-bodyAt s p = take (bodyLength (byteAt s p)) (drop (p + 3) s)
-
-part-body : (s : List ℕ) (p : ℕ) → part s (p + 3) (behind s p) ≡ bodyAt s p
-part-body s p = let e : behind s p - (p + 3) ≡ bodyLength (byteAt s p) = omega arith in rw e
-
-module _ (s : List ℕ) (p q : ℕ) where
-  end-shift : isEnd s (p + q) ≡ isEnd (drop p s) q
-  end-shift = go (isEnd (drop p s) q) refl
-    where
-      go : (b : Bool) → isEnd (drop p s) q ≡ b → isEnd s (p + q) ≡ b
-      go true e = le-leb (length s) (p + q) (omega (arith, leb-true (length (drop p s)) q e, length-drop p s))
-      go false e = lt-leb (length s) (p + q) (omega (arith, leb-false (length (drop p s)) q e, length-drop p s))
-
-  left-shift : length s - (p + q) ≡ length (drop p s) - q
-  left-shift = omega (arith, length-drop p s)
-
-  byte-shift : byteAt s (p + q) ≡ byteAt (drop p s) q
-  byte-shift = sym (getD-drop p s q 0)
-
-  number-shift : number16 s (p + q + 1) ≡ number16 (drop p s) (q + 1)
-  number-shift = simp getD-drop (let e : p + q + 1 ≡ p + (q + 1) = omega arith in let f : p + q + 1 + 1 ≡ p + (q + 1 + 1) = omega arith in rw (f, e))
-
-  step-shift : stepAt s (p + q) ≡ stepAt (drop p s) q
-  step-shift = rw (part-body s (p + q), part-body (drop p s) q, byte-shift, drop-drop (q + 3) p s) (let e : p + q + 3 ≡ p + (q + 3) = omega arith in rw e)
-
-  behind-shift : behind s (p + q) ≡ p + behind (drop p s) q
-  behind-shift = rw byte-shift (omega arith)
-
-  -- the record at a place, read from a place before it on
-  reading-shift : reading s (p + q) ≡ shifted p (reading (drop p s) q)
-  reading-shift =
-      rw (reading-read s (p + q), reading-read (drop p s) q, end-shift, left-shift, number-shift, step-shift, behind-shift, byte-shift)
-      (read-shifted (isEnd (drop p s) q) (headerShort (drop p s) q) (tagUnknown (drop p s) q) (lengthWrong (drop p s) q) (bodyShort (drop p s) q) (stepAt (drop p s) q) p (behind (drop p s) q))
-
--- ---- a record with more behind it
-
--- readings that more bytes behind the script don't change
-abbrev settled : Reading → Bool
-settled End = false
-settled (Malformed k) = not (eqb k 6)
-settled (Found e q) = true
-
-settled-header : (e h : Bool) (r : Reading) → settled (pick e End (pick h (Malformed 6) r)) ≡ true → (e ≡ false) × (h ≡ false)
-settled-header true h r k = absurd (false≢true k)
-settled-header false true r k = absurd (false≢true k)
-settled-header false false r k = (refl, refl)
-
-read-behind : (t w b b′ : Bool) (d d′ : steps.Step) (q : ℕ) → settled (read false false t w b d q) ≡ true → (b ≡ false → (b′ ≡ false) × (d′ ≡ d))
-    → read false false t w b′ d′ q ≡ read false false t w b d q
-read-behind true w b b′ d d′ q k f = refl
-read-behind false true b b′ d d′ q k f = refl
-read-behind false false true b′ d d′ q k f = absurd (false≢true k)
-read-behind false false false b′ d d′ q k f = rw (f refl .0, f refl .1)
-
-module _ (a b : List ℕ) (p : ℕ) where
-  longer : length (a ++ b) ≡ length a + length b
-  longer = length-append a b
-
-  body-behind : p + 3 ≤ length a → bodyShort a p ≡ false → byteAt (a ++ b) p ≡ byteAt a p → (bodyShort (a ++ b) p ≡ false) × (stepAt (a ++ b) p ≡ stepAt a p)
-  body-behind h k e = (rw e (le-ltb (length (a ++ b) - p) (3 + bodyLength (byteAt a p)) (omega (arith, longer, l))), rw (part-body (a ++ b) p, part-body a p, e, front))
-    where
-      l : 3 + bodyLength (byteAt a p) ≤ length a - p
-      l = ltb-false (length a - p) (3 + bodyLength (byteAt a p)) k
-
-      front : take (bodyLength (byteAt a p)) (drop (p + 3) (a ++ b)) ≡ take (bodyLength (byteAt a p)) (drop (p + 3) a)
-      front =
-          rw (drop-append-le (p + 3) a b h)
-          (take-append-le (bodyLength (byteAt a p)) (drop (p + 3) a) b (omega (arith, l, length-drop (p + 3) a)))
-
-  reading-whole : p + 3 ≤ length a → settled (reading a p) ≡ true → reading (a ++ b) p ≡ reading a p
-  reading-whole h k =
-      let e : byteAt (a ++ b) p ≡ byteAt a p = List·getD-append a b 0 p (omega arith) in
-      let n : number16 (a ++ b) (p + 1) ≡ number16 a (p + 1) = rw (List·getD-append a b 0 (p + 1) (omega arith), List·getD-append a b 0 (p + 1 + 1) (omega arith)) in
-      let l : isEnd a p ≡ false = lt-leb (length a) p (omega arith) in
-      let m : headerShort a p ≡ false = le-ltb (length a - p) 3 (omega arith) in
-      let l′ : isEnd (a ++ b) p ≡ false = lt-leb (length (a ++ b)) p (omega (arith, longer)) in
-      let m′ : headerShort (a ++ b) p ≡ false = le-ltb (length (a ++ b) - p) 3 (omega (arith, longer)) in
-      rw (reading-read (a ++ b) p, reading-read a p, l, m, l′, m′, n, e)
-      (read-behind (tagUnknown a p) (lengthWrong a p) (bodyShort a p) (ltb (length (a ++ b) - p) (3 + bodyLength (byteAt a p))) (stepAt a p) (decoded (byteAt a p) (part (a ++ b) (p + 3) (behind a p))) (behind a p)
-      (rw (reading-read a p, l, m) at k)
-      (λ g. rw e at (body-behind h g e)))
-
-  -- a record that is whole, or has an unknown tag or a wrong length, is read the same with more behind it
-  reading-behind : settled (reading a p) ≡ true → reading (a ++ b) p ≡ reading a p
-  reading-behind k = go (settled-header (isEnd a p) (headerShort a p) _ (rw (reading-read a p) at k))
-    where
-      go : (isEnd a p ≡ false) × (headerShort a p ≡ false) → reading (a ++ b) p ≡ reading a p
-      go f = reading-whole (omega (arith, leb-false (length a) p (f .0), ltb-false (length a - p) 3 (f .1))) k
-
--- ---- steps and places in a part of the script
-
-steps-shift : (n : ℕ) (s : List ℕ) (p q : ℕ) → stepsFrom n s (p + q) ≡ stepsFrom n (drop p s) q
-unfolding stepsFrom stepsBy
-steps-shift zero s p q = refl
-steps-shift (suc n) s p q = rw (reading-shift s p q) (go (reading (drop p s) q) (steps-shift n s p))
-  where
-    go : (r : Reading) → ((q′ : ℕ) → stepsFrom n s (p + q′) ≡ stepsFrom n (drop p s) q′) → stepsBy (shifted p r) (stepsFrom n s) ≡ stepsBy r (stepsFrom n (drop p s))
-    go End f = refl
-    go (Malformed k) f = refl
-    go (Found d q′) f = ap (λ (l : List steps.Step). d ∷ l) (f q′)
-
-place-shift : (n : ℕ) (s : List ℕ) (p q : ℕ) → placeAfter n s (p + q) ≡ p + placeAfter n (drop p s) q
-unfolding placeAfter placeBy
-place-shift zero s p q = refl
-place-shift (suc n) s p q = rw (reading-shift s p q) (go (reading (drop p s) q) (place-shift n s p))
-  where
-    go : (r : Reading) → ((q′ : ℕ) → placeAfter n s (p + q′) ≡ p + placeAfter n (drop p s) q′) → placeBy (shifted p r) (p + q) (placeAfter n s) ≡ p + placeBy r q (placeAfter n (drop p s))
-    go End f = refl
-    go (Malformed k) f = refl
-    go (Found d q′) f = f q′
-
--- the first steps of a script are those of fewer rounds
-steps-take : (k n : ℕ) (s : List ℕ) (p : ℕ) → take k (stepsFrom n s p) ≡ stepsFrom (min k n) s p
-unfolding stepsFrom stepsBy
-steps-take zero n s p = rw zero-min
-steps-take (suc k) zero s p = rw min-zero
-steps-take (suc k) (suc n) s p = rw suc-min-suc (go (reading s p) (steps-take k n s))
-  where
-    go : (r : Reading) → ((q : ℕ) → take k (stepsFrom n s q) ≡ stepsFrom (min k n) s q) → take (suc k) (stepsBy r (stepsFrom n s)) ≡ stepsBy r (stepsFrom (min k n) s)
-    go End f = refl
-    go (Malformed i) f = refl
-    go (Found d q) f = ap (λ (l : List steps.Step). d ∷ l) (f q)
-
-steps-enough : (k n : ℕ) (s : List ℕ) (p : ℕ) → length s - p ≤ n → stepsFrom (n + k) s p ≡ stepsFrom n s p
-steps-enough zero n s p h = rw add-zero
-steps-enough (suc k) n s p h = rw add-suc (steps-more (n + k) s p (omega arith) ∙ steps-enough k n s p h)
-
-module _ (a b : List ℕ) where
-  abbrev stepsOn : ℕ → List steps.Step
-  stepsOn = stepsFrom (length (a ++ b)) (a ++ b)
-
-  -- where n rounds from place p on stop in the first part
-  abbrev stopOf : ℕ → ℕ → ℕ
-  stopOf n p = placeAfter (length (stepsFrom n a p)) a p
-
-  -- the steps of the first part, and then those from the place on where they stop
-  steps-split : (n p : ℕ) → stepsOn p ≡ stepsFrom n a p ++ stepsOn (stopOf n p)
-  unfolding stepsFrom stepsBy placeAfter placeBy
-  steps-split zero p = refl
-  steps-split (suc n) p = go (reading a p) refl (steps-split n)
-    where
-      go : (r : Reading) → reading a p ≡ r → ((q : ℕ) → stepsOn q ≡ stepsFrom n a q ++ stepsOn (stopOf n q))
-          → stepsOn p ≡ stepsBy r (stepsFrom n a) ++ stepsOn (placeAfter (length (stepsBy r (stepsFrom n a))) a p)
-      go End e f = refl
-      go (Malformed k) e f = refl
-      go (Found d q) e f =
-          steps-on (a ++ b) p ∙ rw (reading-behind a b p (rw e), e) (ap (λ (l : List steps.Step). d ∷ l) (f q))
-
-  place-split : (n k p : ℕ) → placeAfter (length (stepsFrom n a p) + k) (a ++ b) p ≡ placeAfter k (a ++ b) (stopOf n p)
-  unfolding stepsFrom stepsBy placeAfter placeBy
-  place-split zero k p = rw zero-add
-  place-split (suc n) k p = go (reading a p) refl (place-split n k)
-    where
-      go : (r : Reading) → reading a p ≡ r → ((q : ℕ) → placeAfter (length (stepsFrom n a q) + k) (a ++ b) q ≡ placeAfter k (a ++ b) (stopOf n q))
-          → placeAfter (length (stepsBy r (stepsFrom n a)) + k) (a ++ b) p ≡ placeAfter k (a ++ b) (placeAfter (length (stepsBy r (stepsFrom n a))) a p)
-      go End e f = rw zero-add
-      go (Malformed i) e f = rw zero-add
-      go (Found d q) e f = rw (suc-add, reading-behind a b p (rw e), e) (f q)
-
-  -- what is behind a place of the first part is a script of its own
-  steps-rest : (p : ℕ) → p ≤ length a → stepsOn p ≡ stepsOf (drop p a ++ b)
-  unfolding stepsOf
-  steps-rest p h =
-      let t : List ℕ = drop p a ++ b in
-      let n : length (a ++ b) ≡ length t + p = omega (arith, length-append a b, length-append (drop p a) b, length-drop p a) in
-      rw add-zero at (steps-shift (length (a ++ b)) (a ++ b) p 0) ∙ rw (drop-append-le p a b h, n) (steps-enough p (length t) t 0 (omega arith))
+use Rattle.model.proofs.Replays.{steps-on, place-within, own-goes, replays}
+use Rattle.model.proofs.Parts.{shifted, reading-shift, settled, reading-behind, place-shift, steps-take, stepsOn, steps-split, place-split, steps-rest}
 
 -- ---- a whole replay, from the steps that are answered and the record at which it stops
 
@@ -292,11 +101,6 @@ record-shift z s p q space h = rw (reading-shift s p q) (go (reading (drop p s) 
     go (Found d q′) true e = rw e
     go (Found d q′) false e = rw e
 
-after-append : (z : Controller) (l m : List steps.Step) → after z (l ++ m) ≡ after (after z l) m
-unfolding after
-after-append z [] m = refl
-after-append z (e ∷ l) m = after-append (step z e .controller) l m
-
 replies-append : (z : Controller) (l m : List steps.Step) → repliesTo z (l ++ m) ≡ repliesTo z l ++ repliesTo (after z l) m
 unfolding after repliesTo
 replies-append z [] m = refl
@@ -309,67 +113,7 @@ finished-followed x z l m p r e f g =
     let w : (i j k : ℕ) → 9 * (i + j) + k ≡ 9 * i + (9 * j + k) = λ i j k. omega arith in
     rw (e, f, g, length-append l m, replies-append z l m, append-assoc, w)
 
-module _ (z : Controller) (a b : List ℕ) (first space : ℕ) where
-  -- the steps answered in the first piece, where it stops, and what is replayed then
-  abbrev front : List steps.Step
-  front = answeredSteps a first
-
-  abbrev stop : ℕ
-  stop = placeAfter (length front) a 0
-
-  abbrev left : List ℕ
-  left = drop stop a ++ b
-
-  abbrev room : ℕ
-  room = space - 9 * length front
-
-  abbrev then : List steps.Step
-  then = answeredSteps left room
-
-  abbrev rounds : ℕ
-  rounds = min (first / 9) (length a)
-
-  within : stop ≤ length a
-  within = place-within (length front) a 0 (omega arith)
-
-  steps-front : stepsOf (a ++ b) ≡ front ++ stepsOn a b stop
-  unfolding stepsOf
-  steps-front = rw (← (answers-rounds z a first)) at (steps-split a b rounds 0)
-
-  place-front : (k : ℕ) → placeAfter (length front + k) (a ++ b) 0 ≡ placeAfter k (a ++ b) stop
-  place-front k = rw (← (answers-rounds z a first)) at (place-split a b rounds k 0)
-
-  answers-both : 9 * length front ≤ space → answeredSteps (a ++ b) space ≡ front ++ then
-  answers-both h =
-      let n : space / 9 ≡ length front + room / 9 = omega arith in
-      rw (steps-front, steps-rest a b stop within, n) (take-append-add front (stepsOf left) (room / 9))
-
-  place-both : (k : ℕ) → placeAfter (length front + k) (a ++ b) 0 ≡ stop + placeAfter k left 0
-  place-both k = place-front k ∙ rw (← (drop-append-le stop a b within)) (rw add-zero at (place-shift k (a ++ b) stop 0))
-
-  last-both : stopAt z (front ++ then) (a ++ b) space ≡ placed stop (stopAt (after z front) then left room)
-  last-both =
-      let n : (i j : ℕ) → space - 9 * (i + j) ≡ space - 9 * i - 9 * j = λ i j. omega arith in
-      rw (after-append z front then, length-append front then, place-both (length then), n)
-      (rw (drop-append-le stop a b within) at (record-shift (after (after z front) then) (a ++ b) stop (placeAfter (length then) left 0) (room - 9 * length then) (omega (arith, length-append a b, within))))
-
-  -- the replies to the steps of the first piece
-  replies-front : take (9 * length front) (replay z a first .replies) ≡ repliesTo z front
-  replies-front = rw (replays z a first .folds .replies) (take-at (repliesTo z front) _ (9 * length front) (replies-length z front))
-
-  replay-left : replay (replay z a first .result .controller) (leftBy (replay z a first) a ++ b) (space - 9 * replay z a first .result .records)
-      ≡ finished (after z front) then (stopAt (after z front) then left room)
-  replay-left = rw (replays z a first .folds .controller, place-stop z a first, replays z a first .folds .records) (replay-finished (after z front) left room)
-
-  pub resumes : Resumes z a b (replay z a first) space
-  resumes h =
-      let r : Replayed = stopAt (after z front) then left room in
-      let k : 9 * length front ≤ space = rw (replays z a first .folds .records) at h in
-      replay-finished z (a ++ b) space
-      ∙ rw (answers-both k, last-both) (finished-followed (replay z a first) z front then stop r (place-stop z a first) (replays z a first .folds .records) replies-front)
-      ∙ ap (followed (replay z a first)) (sym replay-left)
-
--- ---- a replay that stopped for good
+-- ---- the record at which a replay stopped, with more behind it
 
 -- what a record that stops a replay gives, with more space and more behind it
 stops-alike : (d : Reading) (z : Controller) (n n′ p space space′ : ℕ) (f : ℕ → List steps.Step)
@@ -392,7 +136,7 @@ stops-alike (Found d q) z n n′ p space space′ f h k e l = absurd (go (ltb sp
     go true t = true≢false (rw t at k)
     go false t = true≢false (sym (rw t at h) ∙ own-goes (step z d .code) (code-small z d))
 
--- a script that stops for an unknown tag or a wrong length is read no further
+-- a replay that neither lacked space nor goes on stopped at an unknown tag or a wrong length, which more bytes do not change
 stops-settled : (d : Reading) (z : Controller) (n p space : ℕ) → eqb (replayed d z n p space .code) 9 ≡ false
     → goesOn (replayed d z n p space .ended) (replayed d z n p space .code) ≡ false → settled d ≡ true
 unfolding replayed
@@ -404,69 +148,160 @@ stops-settled (Malformed i) z n p space k h = go (ltb space 9) refl
     go false t = ap not (rw t at h)
 stops-settled (Found d q) z n p space k h = refl
 
+-- ---- a piece, and b behind it
+
 module _ (z : Controller) (a b : List ℕ) (first space : ℕ) where
   abbrev x : Progress
   x = replay z a first
 
-  abbrev l : List steps.Step
-  l = front z a b first space
+  -- the steps answered in the first piece, where it stops, and the reply space left for the record there and for what follows
+  abbrev front : List steps.Step
+  front = answeredSteps a first
 
-  abbrev p : ℕ
-  p = stop z a b first space
+  abbrev stop : ℕ
+  stop = placeAfter (length front) a 0
 
-  -- what is left for the record at which the replay stopped
   abbrev rest : ℕ
-  rest = first - 9 * length l
+  rest = first - 9 * length front
 
-  stopped-as : x ≡ finished z l (replayed (reading a p) (after z l) (length a) p rest)
+  abbrev room : ℕ
+  room = space - 9 * length front
+
+  -- what is replayed behind the first piece, and the steps answered there
+  abbrev left : List ℕ
+  left = drop stop a ++ b
+
+  abbrev then : List steps.Step
+  then = answeredSteps left room
+
+  within : stop ≤ length a
+  within = place-within (length front) a 0 (omega arith)
+
+  steps-front : stepsOf (a ++ b) ≡ front ++ stepsOn a b stop
+  unfolding stepsOf
+  steps-front = rw (← (answers-rounds z a first)) at (steps-split a b (min (first / 9) (length a)) 0)
+
+  place-front : (k : ℕ) → placeAfter (length front + k) (a ++ b) 0 ≡ placeAfter k (a ++ b) stop
+  place-front k = rw (← (answers-rounds z a first)) at (place-split a b (min (first / 9) (length a)) k 0)
+
+  -- ---- the replay goes on
+
+  answers-both : 9 * length front ≤ space → answeredSteps (a ++ b) space ≡ front ++ then
+  answers-both h =
+      let n : space / 9 ≡ length front + room / 9 = omega arith in
+      rw (steps-front, steps-rest a b stop within, n) (take-append-add front (stepsOf left) (room / 9))
+
+  place-both : (k : ℕ) → placeAfter (length front + k) (a ++ b) 0 ≡ stop + placeAfter k left 0
+  place-both k = place-front k ∙ rw (← (drop-append-le stop a b within)) (rw add-zero at (place-shift k (a ++ b) stop 0))
+
+  last-both : stopAt z (front ++ then) (a ++ b) space ≡ placed stop (stopAt (after z front) then left room)
+  last-both =
+      let n : (i j : ℕ) → space - 9 * (i + j) ≡ space - 9 * i - 9 * j = λ i j. omega arith in
+      rw (after-append z front then, length-append front then, place-both (length then), n)
+      (rw (drop-append-le stop a b within) at (record-shift (after (after z front) then) (a ++ b) stop (placeAfter (length then) left 0) (room - 9 * length then) (omega (arith, length-append a b, within))))
+
+  replies-front : take (9 * length front) (x .replies) ≡ repliesTo z front
+  replies-front = rw (replays z a first .folds .replies) (take-at (repliesTo z front) _ (9 * length front) (replies-length z front))
+
+  replay-left : replay (x .result .controller) (leftBy x a ++ b) (space - 9 * x .result .records) ≡ finished (after z front) then (stopAt (after z front) then left room)
+  replay-left = rw (replays z a first .folds .controller, place-stop z a first, replays z a first .folds .records) (replay-finished (after z front) left room)
+
+  goes-behind : 9 * x .result .records ≤ space → replay z (a ++ b) space ≡ followed x (replay (x .result .controller) (leftBy x a ++ b) (space - 9 * x .result .records))
+  goes-behind h =
+      let r : Replayed = stopAt (after z front) then left room in
+      let k : 9 * length front ≤ space = rw (replays z a first .folds .records) at h in
+      replay-finished z (a ++ b) space
+      ∙ rw (answers-both k, last-both) (finished-followed x z front then stop r (place-stop z a first) (replays z a first .folds .records) replies-front)
+      ∙ ap (followed x) (sym replay-left)
+
+  -- ---- the replay stopped for good
+
+  stopped-as : x ≡ finished z front (replayed (reading a stop) (after z front) (length a) stop rest)
   unfolding recordAt
   stopped-as = replay-finished z a first
 
-  -- the same record, with b behind it
-  alike : eqb (x .result .code) 9 ≡ false → x .result .written ≤ space → (x .result .ended ≡ true → length (a ++ b) ≡ length a)
-      → (replayed (reading a p) (after z l) (length (a ++ b)) p (space - 9 * length l) ≡ replayed (reading a p) (after z l) (length a) p rest) × (stepsBy (reading a p) (stepsOn a b) ≡ [])
-  alike k w e =
-      let f : 9 * length l + length (replyOf (replayed (reading a p) (after z l) (length a) p rest)) ≤ space = rw stopped-as at w in
-      stops-alike (reading a p) (after z l) (length a) (length (a ++ b)) p rest (space - 9 * length l) (stepsOn a b)
-      (rw stopped-as at (replays z a first .stop .stopped)) (rw stopped-as at k) (rw stopped-as at e) (omega arith)
+  -- where the record at which it stopped is read the same with b behind it, the replay is the same
+  module _ (k : eqb (x .result .code) 9 ≡ false) (w : x .result .written ≤ space) (e : x .result .ended ≡ true → length (a ++ b) ≡ length a) where
+    fits : 9 * length front + length (replyOf (replayed (reading a stop) (after z front) (length a) stop rest)) ≤ space
+    fits = rw stopped-as at w
 
-  -- where the last record is read the same with b behind it, the replay is the same
-  stays : eqb (x .result .code) 9 ≡ false → x .result .written ≤ space → (x .result .ended ≡ true → length (a ++ b) ≡ length a) → reading (a ++ b) p ≡ reading a p → replay z (a ++ b) space ≡ x
-  unfolding recordAt placeAfter
-  stays k w e h =
-      let f : 9 * length l + length (replyOf (replayed (reading a p) (after z l) (length a) p rest)) ≤ space = rw stopped-as at w in
-      let none : stepsOn a b p ≡ [] = steps-on (a ++ b) p ∙ rw h (alike k w e .1) in
-      let all : stepsOf (a ++ b) ≡ l = steps-front z a b first space ∙ rw (none, append-nil) in
-      let same : answeredSteps (a ++ b) space ≡ l = rw all (take-all (space / 9) l (omega arith)) in
-      let at : placeAfter (length l) (a ++ b) 0 ≡ p = rw add-zero at (place-front z a b first space 0) in
-      replay-finished z (a ++ b) space ∙ rw (same, at, h, alike k w e .0) (sym stopped-as)
+    alike : (replayed (reading a stop) (after z front) (length (a ++ b)) stop room ≡ replayed (reading a stop) (after z front) (length a) stop rest) × (stepsBy (reading a stop) (stepsOn a b) ≡ [])
+    alike =
+        stops-alike (reading a stop) (after z front) (length a) (length (a ++ b)) stop rest room (stepsOn a b)
+        (rw stopped-as at (replays z a first .stop .stopped)) (rw stopped-as at k) (rw stopped-as at e) (omega (arith, fits))
 
-  -- so it is where it stopped for an unknown tag or a wrong length
+    stays : reading (a ++ b) stop ≡ reading a stop → replay z (a ++ b) space ≡ x
+    unfolding recordAt placeAfter
+    stays h =
+        let none : stepsOn a b stop ≡ [] = steps-on (a ++ b) stop ∙ rw h (alike .1) in
+        let all : stepsOf (a ++ b) ≡ front = steps-front ∙ rw (none, append-nil) in
+        let same : answeredSteps (a ++ b) space ≡ front = rw all (take-all (space / 9) front (omega (arith, fits))) in
+        let there : placeAfter (length front) (a ++ b) 0 ≡ stop = rw add-zero at (place-front 0) in
+        replay-finished z (a ++ b) space ∙ rw (same, there, h, alike .0) (sym stopped-as)
+
   stays-settled : eqb (x .result .code) 9 ≡ false → x .result .written ≤ space → goesOn (x .result .ended) (x .result .code) ≡ false → replay z (a ++ b) space ≡ x
-  stays-settled k w h = stays k w (not-ended (x .result .ended) (x .result .code) h) (reading-behind a b p (stops-settled (reading a p) (after z l) (length a) p rest (rw stopped-as at k) (rw stopped-as at h)))
+  stays-settled k w h =
+      stays k w (not-ended (x .result .ended) (x .result .code) h)
+      (reading-behind a b stop (stops-settled (reading a stop) (after z front) (length a) stop rest (rw stopped-as at k) (rw stopped-as at h)))
     where
       not-ended : (e : Bool) (c : ℕ) → goesOn e c ≡ false → e ≡ true → length (a ++ b) ≡ length a
       not-ended true c g i = absurd (true≢false g)
       not-ended false c g i = absurd (false≢true i)
 
-  -- one piece, with those behind it
+  -- ---- either of the two
+
   piece-first : (t : Bool) (y : Progress) → goesOn (x .result .ended) (x .result .code) ≡ t → eqb (pick t (followed x y) x .result .code) 9 ≡ false → pick t (followed x y) x .result .written ≤ space
       → ((n : ℕ) → eqb (y .result .code) 9 ≡ false → y .result .written ≤ n → replay (x .result .controller) (leftBy x a ++ b) n ≡ y) → replay z (a ++ b) space ≡ pick t (followed x y) x
   unfolding followed
-  piece-first true y h k w f = resumes z a b first space (omega arith) ∙ ap (followed x) (f (space - 9 * x .result .records) k (omega arith))
+  piece-first true y h k w f = goes-behind (omega arith) ∙ ap (followed x) (f (space - 9 * x .result .records) k (omega arith))
   piece-first false y h k w f = stays-settled k w h
+
+-- ---- what a piece leaves
+
+body-small : (t : ℕ) → bodyLength t ≤ 13
+unfolding bodyLength
+body-small t =
+    pick-cases (λ (n : ℕ). n ≤ 13) (eqb t 2) _ _ (λ _. omega arith)
+    (λ _. pick-cases (λ (n : ℕ). n ≤ 13) (eqb t 3) _ _ (λ _. omega arith)
+    (λ _. pick-cases (λ (n : ℕ). n ≤ 13) (eqb t 5) _ _ (λ _. omega arith)
+    (λ _. pick-cases (λ (n : ℕ). n ≤ 13) (eqb t 8) _ _ (λ _. omega arith)
+    (λ _. pick-cases (λ (n : ℕ). n ≤ 13) (eqb t 9) _ _ (λ _. omega arith)
+    (λ _. pick-cases (λ (n : ℕ). n ≤ 13) (eqb t 10) _ _ (λ _. omega arith) (λ _. omega arith))))))
+
+-- a record that is cut short
+cut-short : (z : Controller) (s : List ℕ) (p space : ℕ) → eqb (recordAt z s p space .code) 6 ≡ true → length s - p ≤ 15
+cut-short z s p space k = go (headerShort s p) refl (sym (record-codes z s p space .code6) ∙ k)
+  where
+    go : (h : Bool) → headerShort s p ≡ h → (answerable s p space && (headerShort s p || (not (tagUnknown s p) && not (lengthWrong s p) && bodyShort s p))) ≡ true → length s - p ≤ 15
+    go true e f = omega (arith, ltb-true (length s - p) 3 e)
+    go false e f =
+        let b : bodyShort s p ≡ true = and-r (not (tagUnknown s p) && not (lengthWrong s p)) (bodyShort s p) (and-r (answerable s p space) _ (rw e at f)) in
+        omega (arith, ltb-true (length s - p) (3 + bodyLength (byteAt s p)) b, body-small (byteAt s p))
+
+few-left : (z : Controller) (s : List ℕ) (space : ℕ) → goesOn (replay z s space .result .ended) (replay z s space .result .code) ≡ true → length (leftBy (replay z s space) s) ≤ 15
+few-left z s space h = rw (length-drop (replay z s space .result .place) s) (go (replay z s space .result .ended) refl h)
+  where
+    go : (e : Bool) → replay z s space .result .ended ≡ e → goesOn e (replay z s space .result .code) ≡ true → length s - replay z s space .result .place ≤ 15
+    go true e k = omega (arith, eqb-true (replay z s space .result .place) (length s) (sym (replays z s space .stop .ends) ∙ e))
+    go false e k = rw (place-stop z s space) (cut-short _ s (placeAfter (length (answers z s space)) s 0) _ (rw (replay-finished z s space) at k))
+
+pub resumes : (z : Controller) (a : List ℕ) (first : ℕ) → Resumes z a (replay z a first)
+resumes z a first = record {
+  more = λ b space. goes-behind z a b first space;
+  few = few-left z a first;
+}
 
 -- ---- any number of pieces
 
-whole-script : (space : ℕ) (l : List (List ℕ)) (z : Controller) (s : List ℕ) (all : ℕ) → eqb (inPieces space l z s .result .code) 9 ≡ false
+pieces-whole : (space : ℕ) (l : List (List ℕ)) (z : Controller) (s : List ℕ) (all : ℕ) → eqb (inPieces space l z s .result .code) 9 ≡ false
     → inPieces space l z s .result .written ≤ all → replay z (s ++ flatten l) all ≡ inPieces space l z s
 unfolding inPieces afterPiece flatten
-whole-script space [] z s all k w = stays z s [] space all k w (λ _. rw append-nil) (rw append-nil)
-whole-script space (b ∷ l) z s all k w =
+pieces-whole space [] z s all k w = stays z s [] space all k w (λ _. rw append-nil) (rw append-nil)
+pieces-whole space (b ∷ l) z s all k w =
     let x : Progress = replay z (s ++ b) space in
     let y : Progress = inPieces space l (x .result .controller) (leftBy x (s ++ b)) in
     rw (← (append-assoc s b (flatten l)))
-    (piece-first z (s ++ b) (flatten l) space all (goesOn (x .result .ended) (x .result .code)) y refl k w (whole-script space l (x .result .controller) (leftBy x (s ++ b))))
+    (piece-first z (s ++ b) (flatten l) space all (goesOn (x .result .ended) (x .result .code)) y refl k w (pieces-whole space l (x .result .controller) (leftBy x (s ++ b))))
 
 -- ---- enough reply space
 
@@ -501,6 +336,6 @@ all-fit n space (b ∷ l) z s h f =
 -- a script in pieces gives what the whole script gives
 pub in-pieces : (space : ℕ) (l : List (List ℕ)) (z : Controller) → InPieces space l z
 in-pieces space l z = record {
-  whole = λ all k w. whole-script space l z [] all k w;
+  whole = λ all k w. pieces-whole space l z [] all k w;
   enough = λ n h f. all-fit n space l z [] h f;
 }

@@ -131,16 +131,18 @@ followed x y = record {
 abbrev pub leftBy : Progress → List ℕ → List ℕ
 leftBy x s = drop (x .result .place) s
 
--- the replay of b behind what the replay x of a left gives what a and b give as one script, in a reply space of so many bytes
-abbrev pub Resumes : Controller → (a b : List ℕ) → Progress → ℕ → Type 0
-Resumes z a b x space =
-    9 * x .result .records ≤ space → replay z (a ++ b) space ≡ followed x (replay (x .result .controller) (leftBy x a ++ b) (space - 9 * x .result .records))
+-- the replay x of a script a, wherever it stopped: the replay of what it left, with b behind that, gives the rest of what a
+-- and b give as one script; where it goes on with the next piece it left less than the longest record has
+pub record Resumes (z : Controller) (a : List ℕ) (x : Progress) : Type 0 where
+  pub more : (b : List ℕ) (space : ℕ) → 9 * x .result .records ≤ space
+      → replay z (a ++ b) space ≡ followed x (replay (x .result .controller) (leftBy x a ++ b) (space - 9 * x .result .records))
+  pub few : goesOn (x .result .ended) (x .result .code) ≡ true → length (leftBy x a) ≤ 15
 
 unfoldable pub afterPiece : Progress → List ℕ → (Controller → List ℕ → Progress) → Progress
 afterPiece x s f = pick (goesOn (x .result .ended) (x .result .code)) (followed x (f (x .result .controller) (leftBy x s))) x
 
--- the replay of a script that is read in pieces, each replayed behind what is left of those before it, with one reply space
--- for all; where the input ends, what is left is replayed with nothing behind it
+-- a script that is read in pieces: each is replayed behind what is left of those before it, each time with the same reply
+-- space; where the input ends, what is left is replayed with nothing behind it
 unfoldable pub inPieces : ℕ → List (List ℕ) → Controller → List ℕ → Progress
 inPieces space [] z left = replay z left space
 inPieces space (b ∷ l) z left = afterPiece (replay z (left ++ b) space) (left ++ b) (inPieces space l)
@@ -152,7 +154,7 @@ Fit n space (b ∷ l) z left =
     let x : Progress = replay z (left ++ b) space in
     (length (left ++ b) ≤ n) × (goesOn (x .result .ended) (x .result .code) ≡ true → Fit n space l (x .result .controller) (leftBy x (left ++ b)))
 
--- if no piece lacked reply space, the pieces give what the whole script gives in any space that holds its replies; nine
+-- if no piece lacked reply space, the pieces give what the whole script gives in a space that holds all the replies; nine
 -- bytes for every three of the script space, and nine more, are enough for each piece
 pub record InPieces (space : ℕ) (l : List (List ℕ)) (z : Controller) : Type 0 where
   pub whole : (all : ℕ) → eqb (inPieces space l z [] .result .code) 9 ≡ false → inPieces space l z [] .result .written ≤ all → replay z (flatten l) all ≡ inPieces space l z []

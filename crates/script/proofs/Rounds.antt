@@ -2,8 +2,8 @@
 use mathlib.Core.Bool.{Bool, true, false, not, _&&_, _||_, true≢false}
 use mathlib.Core.Path.{_≡_, refl, sym, ap, _∙_}
 use mathlib.Core.List.{List, [], _++_, append-assoc, append-nil}
-use Prim.Native.Nat.{ℕ, zero, suc, _+_, _-_, _*_, _≤_}
-use native.Mathlib.Nat.{add-zero, add-suc}
+use Prim.Native.Nat.{ℕ, suc, _+_, _-_, _*_, _≤_}
+use native.Mathlib.Nat.{add-zero}
 use native.Mathlib.Numerals.{add-one}
 use native.Mathlib.Omega.{arith}
 use lib.Dec.{eqb, ltb}
@@ -17,6 +17,7 @@ use Rattle.model.specs.declared.Controller.{Controller}
 use Rattle.model.specs.declared.Replayed.{Replayed}
 use Rattle.model.specs.declared.Replay.{Replay}
 use Rattle.model.proofs.Readings.{record-codes, record-within, record-advances}
+use Rattle.model.proofs.Replays.{times-more}
 
 -- ---- a reply behind those before it
 
@@ -60,11 +61,6 @@ reply-fits z s p space =
     go false false h = ltb-false space 9 h
 
 -- ---- rounds
-
-times-fixed : {A : Type 0} (n k : ℕ) (f : A → A) (x : A) → f (times n f x) ≡ times n f x → times (n + k) f x ≡ times n f x
-unfolding times
-times-fixed n zero f x h = rw add-zero
-times-fixed n (suc k) f x h = rw add-suc (ap f (times-fixed n k f x h) ∙ h)
 
 module _ (z : Controller) (s : List ℕ) (space : List ℕ) where
   -- how far the replay is after k rounds
@@ -168,7 +164,7 @@ module _ (z : Controller) (s : List ℕ) (space : List ℕ) where
 
       pub last-round : replay z s (length space) ≡ after (suc k)
       unfolding replay
-      last-round = rw rounds (times-fixed (suc k) (length s - k) (advanced s (length space)) (begun z) fixed)
+      last-round = rw rounds (times-more (suc k) (length s - k) (advanced s (length space)) (begun z) fixed)
 
       -- what the replay gives, from the last record
       pub result : (n : ℕ) → n ≡ pick (r .ended || eqb (r .code) 9) 0 9
