@@ -5,6 +5,7 @@ use crate::controller::Controller;
 use crate::generate::{generate, Kind, KINDS};
 use crate::malformed;
 use crate::probe::MISTAKES;
+use crate::race;
 use crate::script::{self, decode, Step, REPLY_LENGTH};
 use crate::shrink;
 use crate::USAGE;
@@ -15,7 +16,9 @@ use std::os::fd::AsFd;
 const READ_TO_THE_END: u8 = 0;
 const DEMAND_VIOLATED: u8 = 1;
 const UNREADABLE_RECORD: u8 = 2;
-/// Replies are handed to the system in pieces of about this size.
+/// The lowest code that ends a replay: a record that is cut short.
+const CODE_SHORT: u8 = 6;
+/// Scripts are read, and replies written, in pieces of about this size.
 const PIECE: usize = 1 << 16;
 
 type Status = Result<u8, String>;
@@ -34,6 +37,7 @@ pub fn run(words: &[&str]) -> Status {
         ["generate", seed, records, kind] => write_generated(seed, records, kind),
         ["malformed", seed, count, folder] => malformed::write_files(number(seed)?, number(count)?, folder),
         ["shrink", a, b, file] => shrink::shrink(a, b, file),
+        ["race", a, b, file, rounds] => race::race(a, b, file, number(rounds)?),
         ["words"] => print_words(),
         ["wrong-list"] => list_mistakes(),
         #[cfg(wrong)]
@@ -112,33 +116,48 @@ impl Replies {
     }
 }
 
+/// Replays standard input a piece at a time.
 fn replay() -> Status {
-    let script = standard_input()?;
+    let mut input = io::stdin().lock();
     let mut replies = Replies::new()?;
     let mut controller = Controller::at_reset();
     let mut reply = [0; REPLY_LENGTH];
-    let (mut record, mut place) = (0u64, 0);
+    let mut space = vec![0; PIECE];
+    let (mut record, mut bytes, mut held) = (0u64, 0, 0);
     loop {
-        let progress = script::step(&mut controller, &script, place, &mut reply);
-        if progress.at_end {
+        let got = input.read(&mut space[held..]).map_err(|error| error.to_string())?;
+        let script = &space[..held + got];
+        let mut place = 0;
+        loop {
+            let progress = script::step(&mut controller, script, place, &mut reply);
+            // The rest of a record that is cut short may come with the next piece.
+            if progress.at_end || (progress.answer.code == CODE_SHORT && got > 0) {
+                break;
+            }
+            replies.push(&reply);
+            if progress.answer.code >= CODE_SHORT {
+                replies.flush();
+                say_unreadable(&script[place..], record, bytes + place);
+                return Ok(UNREADABLE_RECORD);
+            }
+            record += 1;
+            place = progress.place;
+        }
+        if got == 0 {
             replies.flush();
             return Ok(READ_TO_THE_END);
         }
-        replies.push(&reply);
-        if progress.answer.code >= 6 {
-            replies.flush();
-            say_unreadable(&script, record, place);
-            return Ok(UNREADABLE_RECORD);
-        }
-        record += 1;
-        place = progress.place;
+        held = script.len() - place;
+        bytes += place;
+        space.copy_within(place..place + held, 0);
     }
 }
 
-fn say_unreadable(script: &[u8], record: u64, place: usize) {
-    if let Err(unreadable) = decode(&script[place..]) {
-        let (code, reason) = (unreadable.code(), unreadable.in_words());
-        eprintln!("record {record} at byte {place}: {reason} (code {code})");
+/// `record` is the number of records before this one.
+fn say_unreadable(rest: &[u8], record: u64, byte: usize) {
+    if let Err(unreadable) = decode(rest) {
+        let (number, code, reason) = (record + 1, unreadable.code(), unreadable.in_words());
+        eprintln!("record {number} at byte {byte}: {reason} (code {code})");
     }
 }
 
@@ -156,13 +175,13 @@ fn check() -> Status {
         }
         replies.push(&reply);
         if progress.answer.code >= 6 {
-            say_unreadable(&script, record, place);
+            say_unreadable(&script[place..], record, place);
             break UNREADABLE_RECORD;
         }
         let Ok((step, _)) = decode(&script[place..]) else { break UNREADABLE_RECORD };
         let kept = book.feed(record, step, progress.answer).and_then(|()| book.check_tme(tsr_of(&controller)));
         if let Err(violation) = kept {
-            eprintln!("record {record} at byte {place} ({}): {violation}", step.in_words());
+            eprintln!("record {} at byte {place} ({}): {violation}", record + 1, step.in_words());
             break DEMAND_VIOLATED;
         }
         record += 1;

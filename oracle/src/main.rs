@@ -13,6 +13,7 @@ mod generate;
 mod mailbox;
 mod malformed;
 mod probe;
+mod race;
 mod registers;
 mod rng;
 mod script;
@@ -30,6 +31,7 @@ const USAGE: &str = "usage:
   oracle generate SEED RECORDS [KIND]    a script by seed
   oracle malformed SEED COUNT DIR        COUNT broken scripts as files in DIR
   oracle shrink A B SCRIPT               the fewest records on which commands A and B differ
+  oracle race A B SCRIPT ROUNDS          the times of commands A and B, and their ratio
   oracle words                           script on standard input, in words
   oracle wrong-list                      the wrong variants by number
  built with --cfg wrong:
