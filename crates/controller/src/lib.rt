@@ -72,6 +72,19 @@ pub fn reset() -> Controller
 
 // ---- the state after an accepted step
 
+// Field by field: lent whole to a function, it would keep the core in memory.
+fn same_filters(g: Filters) -> Filters
+    ensures { λ r. ⌜ r ≡ g ⌝ }
+{
+    Filters {
+        mode: g.mode,
+        scale: g.scale,
+        assignment: g.assignment,
+        activation: g.activation,
+        finit: g.finit,
+    }
+}
+
 // Loopback: where the good frame of a mailbox goes.
 fn looped_back(c: Core, banks: &[u32; 28], m: Mailbox, r: u8) -> Acceptance
     ensures { λ a. ⌜ a ≡ stepping.loopedBack c (now (banks .entry)) m r ⌝ }
@@ -81,7 +94,7 @@ fn looped_back(c: Core, banks: &[u32; 28], m: Mailbox, r: u8) -> Acceptance
     if (r == 0) & bits::bit(30, k.btr) & !g.finit {
         let b = c.transmit.mailboxes;
         let x = receive::sent_frame(transmit::mailbox::at(b, m));
-        return filter::acceptance(g, banks, x.identifier);
+        return filter::acceptance(same_filters(g), banks, x.identifier);
     }
     Acceptance::Rejected
 }
@@ -100,175 +113,181 @@ fn accepted(c: Core, banks: &[u32; 28], e: Step, code: u8) -> Core
     ensures { λ r. ⌜ r ≡ after.accepted c (now (banks .entry)) e code ⌝ }
 {
     let mut d = c;
-    if code != 0 {
-        return d;
-    }
     let k = c.control;
     let n = c.errors;
     let t = c.transmit;
     let p = c.fifo0;
     let q = c.fifo1;
     let g = c.filters;
-    match e {
-        Step::Reset => core_reset(),
-        Step::Read(_) => d,
-        Step::Write(o, w) => {
-            let x = registers::register_at(o);
-            match x {
-                Register::Mcr => {
-                    if bits::bit(15, w) {
-                        d.control = control::master_reset(k);
-                        d.transmit = transmit::mailbox::dropped(t);
-                        d.fifo0 = receive::empty_fifo();
-                        d.fifo1 = receive::empty_fifo();
-                        return d;
+    if code != 0 {
+        d
+    } else {
+        match e {
+            Step::Reset => core_reset(),
+            Step::Read(_) => d,
+            Step::Write(o, w) => {
+                let x = registers::register_at(o);
+                match x {
+                    Register::Mcr => {
+                        if bits::bit(15, w) {
+                            d.control = control::master_reset(k);
+                            d.transmit = transmit::mailbox::dropped(t);
+                            d.fifo0 = receive::empty_fifo();
+                            d.fifo1 = receive::empty_fifo();
+                            d
+                        } else {
+                            d.control = control::mcr_written(k, w);
+                            d
+                        }
                     }
-                    d.control = control::mcr_written(k, w);
-                    d
-                }
-                Register::Msr => {
-                    d.control = control::msr_written(k, w);
-                    d
-                }
-                Register::Tsr => {
-                    d.transmit = transmit::mailbox::tsr_written(t, w);
-                    d
-                }
-                Register::Rfr(f) => match f {
-                    Fifo::F0 => {
-                        d.fifo0 = receive::rfr_written(p, w);
+                    Register::Msr => {
+                        d.control = control::msr_written(k, w);
                         d
                     }
-                    Fifo::F1 => {
-                        d.fifo1 = receive::rfr_written(q, w);
+                    Register::Tsr => {
+                        d.transmit = transmit::mailbox::tsr_written(t, w);
                         d
                     }
-                },
-                Register::Ier => {
-                    d.control = control::ier_written(k, w);
-                    d
-                }
-                Register::Esr => {
-                    d.errors = control::esr_written(n, w);
-                    d
-                }
-                Register::Btr => {
-                    d.control = control::btr_written(k, w);
-                    d
-                }
-                Register::Ti(m) => {
-                    d.transmit = transmit::mailbox::requested_by(t, m, w);
-                    d
-                }
-                Register::Tdt(m) => {
-                    d.transmit = transmit::mailbox::store_tdt(t, m, w);
-                    d
-                }
-                Register::Tdl(m) => {
-                    d.transmit = transmit::mailbox::store_tdl(t, m, w);
-                    d
-                }
-                Register::Tdh(m) => {
-                    d.transmit = transmit::mailbox::store_tdh(t, m, w);
-                    d
-                }
-                Register::Ri(_) => d,
-                Register::Rdt(_) => d,
-                Register::Rdl(_) => d,
-                Register::Rdh(_) => d,
-                Register::Fmr => {
-                    let mut h = g;
-                    h.finit = bits::bit(0, w);
-                    d.filters = h;
-                    d
-                }
-                Register::Fm1r => {
-                    let mut h = g;
-                    h.mode = w % 16384;
-                    d.filters = h;
-                    d
-                }
-                Register::Fs1r => {
-                    let mut h = g;
-                    h.scale = w % 16384;
-                    d.filters = h;
-                    d
-                }
-                Register::Ffa1r => {
-                    let mut h = g;
-                    h.assignment = w % 16384;
-                    d.filters = h;
-                    d
-                }
-                Register::Fa1r => {
-                    let mut h = g;
-                    h.activation = w % 16384;
-                    d.filters = h;
-                    d
-                }
-                Register::R1(_) => d,
-                Register::R2(_) => d,
-                Register::Absent => d,
-            }
-        }
-        Step::Idle => {
-            d.control = control::idled(k, n);
-            d.errors = control::idle_errors(k, n);
-            d
-        }
-        Step::BitTimes(x) => {
-            d.control = control::ticked(k, x);
-            d
-        }
-        Step::Activity => {
-            d.control = control::woken(k);
-            d
-        }
-        Step::Start => {
-            let s = transmit::priority::first_of(bits::bit(2, k.mcr), t);
-            match s {
-                Sender::Nobody => d,
-                Sender::From(m) => {
-                    d.transmit = transmit::wire::started(t, m, k.timer);
-                    d
+                    Register::Rfr(f) => match f {
+                        Fifo::F0 => {
+                            d.fifo0 = receive::rfr_written(p, w);
+                            d
+                        }
+                        Fifo::F1 => {
+                            d.fifo1 = receive::rfr_written(q, w);
+                            d
+                        }
+                    },
+                    Register::Ier => {
+                        d.control = control::ier_written(k, w);
+                        d
+                    }
+                    Register::Esr => {
+                        d.errors = control::esr_written(n, w);
+                        d
+                    }
+                    Register::Btr => {
+                        d.control = control::btr_written(k, w);
+                        d
+                    }
+                    Register::Ti(m) => {
+                        d.transmit = transmit::mailbox::requested_by(t, m, w);
+                        d
+                    }
+                    Register::Tdt(m) => {
+                        d.transmit = transmit::mailbox::store_tdt(t, m, w);
+                        d
+                    }
+                    Register::Tdl(m) => {
+                        d.transmit = transmit::mailbox::store_tdl(t, m, w);
+                        d
+                    }
+                    Register::Tdh(m) => {
+                        d.transmit = transmit::mailbox::store_tdh(t, m, w);
+                        d
+                    }
+                    Register::Ri(_) => d,
+                    Register::Rdt(_) => d,
+                    Register::Rdl(_) => d,
+                    Register::Rdh(_) => d,
+                    Register::Fmr => {
+                        let mut h = g;
+                        h.finit = bits::bit(0, w);
+                        d.filters = h;
+                        d
+                    }
+                    Register::Fm1r => {
+                        let mut h = g;
+                        h.mode = w % 16384;
+                        d.filters = h;
+                        d
+                    }
+                    Register::Fs1r => {
+                        let mut h = g;
+                        h.scale = w % 16384;
+                        d.filters = h;
+                        d
+                    }
+                    Register::Ffa1r => {
+                        let mut h = g;
+                        h.assignment = w % 16384;
+                        d.filters = h;
+                        d
+                    }
+                    Register::Fa1r => {
+                        let mut h = g;
+                        h.activation = w % 16384;
+                        d.filters = h;
+                        d
+                    }
+                    Register::R1(_) => d,
+                    Register::R2(_) => d,
+                    Register::Absent => d,
                 }
             }
-        }
-        Step::Outcome(r) => {
-            let v = t.queue;
-            let s = v.transmitting;
-            match s {
-                Sender::Nobody => d,
-                Sender::From(m) => {
-                    let b = t.mailboxes;
-                    let x = transmit::mailbox::at(b, m);
-                    let a = looped_back(c, banks, m, r);
-                    let y = looped_frame(x, a);
-                    let locked = bits::bit(3, k.mcr);
-                    let u = control::outcome_errors(n, r);
-                    d.control = control::noticed(k, n, u, (r != 0) & (r != 7));
-                    d.errors = u;
-                    d.transmit = transmit::wire::ended(t, m, r, bits::bit(4, k.mcr));
-                    d.fifo0 = receive::received(Fifo::F0, a, y, locked, p);
-                    d.fifo1 = receive::received(Fifo::F1, a, y, locked, q);
-                    d
+            Step::Idle => {
+                d.control = control::idled(k, n);
+                d.errors = control::idle_errors(k, n);
+                d
+            }
+            Step::BitTimes(x) => {
+                d.control = control::ticked(k, x);
+                d
+            }
+            Step::Activity => {
+                d.control = control::woken(k);
+                d
+            }
+            Step::Start => {
+                let b = t.mailboxes;
+                let v = t.queue;
+                let o = v.order;
+                let i = transmit::priority::identifiers(b);
+                let s = transmit::priority::first(bits::bit(2, k.mcr), i, o);
+                match s {
+                    Sender::Nobody => d,
+                    Sender::From(m) => {
+                        d.transmit = transmit::wire::started(t, m, k.timer);
+                        d
+                    }
                 }
             }
-        }
-        Step::Receive(x) => {
-            let a = filter::acceptance(g, banks, x.identifier);
-            let y = receive::stored_frame(x, receive::fmi_of(a), k.timer);
-            let locked = bits::bit(3, k.mcr);
-            d.errors = control::received_errors(n);
-            d.fifo0 = receive::received(Fifo::F0, a, y, locked, p);
-            d.fifo1 = receive::received(Fifo::F1, a, y, locked, q);
-            d
-        }
-        Step::ReceiveError(x, y) => {
-            let u = control::fault_errors(n, x, y);
-            d.control = control::noticed(k, n, u, true);
-            d.errors = u;
-            d
+            Step::Outcome(r) => {
+                let v = t.queue;
+                let s = v.transmitting;
+                match s {
+                    Sender::Nobody => d,
+                    Sender::From(m) => {
+                        let b = t.mailboxes;
+                        let x = transmit::mailbox::at(b, m);
+                        let a = looped_back(c, banks, m, r);
+                        let y = looped_frame(x, a);
+                        let locked = bits::bit(3, k.mcr);
+                        let u = control::outcome_errors(n, r);
+                        d.control = control::noticed(k, n, u, (r != 0) & (r != 7));
+                        d.errors = u;
+                        d.transmit = transmit::wire::ended(t, m, r, bits::bit(4, k.mcr));
+                        d.fifo0 = receive::received(Fifo::F0, a, y, locked, p);
+                        d.fifo1 = receive::received(Fifo::F1, a, y, locked, q);
+                        d
+                    }
+                }
+            }
+            Step::Receive(x) => {
+                let a = filter::acceptance(same_filters(g), banks, x.identifier);
+                let y = receive::stored_frame(x, receive::fmi_of(a), k.timer);
+                let locked = bits::bit(3, k.mcr);
+                d.errors = control::received_errors(n);
+                d.fifo0 = receive::received(Fifo::F0, a, y, locked, p);
+                d.fifo1 = receive::received(Fifo::F1, a, y, locked, q);
+                d
+            }
+            Step::ReceiveError(x, y) => {
+                let u = control::fault_errors(n, x, y);
+                d.control = control::noticed(k, n, u, true);
+                d.errors = u;
+                d
+            }
         }
     }
 }

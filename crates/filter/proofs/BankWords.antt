@@ -1,21 +1,17 @@
 -- Words with a bit for each bank: of a class, and of those that a search looks at. Assumes nothing.
-use mathlib.Core.Path.{_≡_, refl, sym, _∙_}
+use mathlib.Core.Path.{_≡_, refl}
 use mathlib.Core.Bool.{Bool, true, false, not, _&&_}
-use mathlib.Core.List.{List}
-use Prim.Native.Nat.{ℕ, zero, suc, _-_, _/_, _%_, _^_, _≤_, _<_, min}
-use native.Mathlib.Nat.{div-eq-of-lt}
+use Prim.Native.Nat.{ℕ, _-_, _/_, _%_, _^_, _<_, min}
 use native.Mathlib.Omega.{arith}
 use lib.Dec.{eqb}
 use lib.Bits.{bitAnd}
-use lib.Pow.{pow-pos}
-use Rattle.model.specs.Base.{pick, bit}
-use Rattle.model.specs.Banks.{classBy, classOf, rank, width, own}
-use Rattle.model.specs.Search.{first, searched, tried, hitIn, firstHit}
+use Rattle.model.specs.Base.{bit}
+use Rattle.model.specs.Banks.{classBy, classOf, rank, own}
+use Rattle.model.specs.Search.{searched}
 use Rattle.model.specs.declared.Filters.{Filters}
 use Rattle.model.specs.declared.Fifo.{Fifo}
 use Rattle.model.specs.declared.FilterClass.{FilterClass}
 use Rattle.model.specs.declared.FilterClass.the-variants.{List32, Mask32, List16, Mask16}
-use Rattle.model.specs.declared.Hit.the-variants.{Nothing}
 use Rattle.model.proofs.Digits.{for-digit, and-digit, not-digit}
 use Rattle.model.proofs.Numbering.{own-digit}
 
@@ -31,10 +27,10 @@ both-digits x y hx hy =
 other-digit : (x : ℕ) → x < 2 → eqb (1 - x) 1 ≡ not (eqb x 1)
 other-digit = for-digit (λ (x : ℕ). eqb (1 - x) 1 ≡ not (eqb x 1)) refl refl
 
-and-bit : (i a b : ℕ) → bit i (bitAnd a b) ≡ (bit i a && bit i b)
+pub and-bit : (i a b : ℕ) → bit i (bitAnd a b) ≡ (bit i a && bit i b)
 and-bit i a b = rw (and-digit i a b) (both-digits (a / 2 ^ i % 2) (b / 2 ^ i % 2) (omega arith) (omega arith))
 
-not-bit : (i a : ℕ) → i < 32 → a < 2 ^ 32 → bit i ((2 ^ 32 - 1) - a) ≡ not (bit i a)
+pub not-bit : (i a : ℕ) → i < 32 → a < 2 ^ 32 → bit i ((2 ^ 32 - 1) - a) ≡ not (bit i a)
 not-bit i a h l = rw (not-digit i a h l) (other-digit (a / 2 ^ i % 2) (omega arith))
 
 -- ---- the banks of a class, from the words g .scale and g .mode
@@ -81,27 +77,3 @@ pub searched-bit : (g : Filters) (k : FilterClass) (f : Fifo) (x i : ℕ) → i 
 unfolding searched
 searched-bit g k f x i h ha e =
     rw (and-bit i (g .activation) (bitAnd (own f g) x), and-bit i (own f g) x, own-digit f g i h ha, e)
-
--- m filters of bank i are looked at where x is the word of the banks that are searched
-pub tried-by-bit : (g : Filters) (k : FilterClass) (f : Fifo) (x i m : ℕ) → ((j : ℕ) → j < 32 → bit j x ≡ searched g k f j) → i < 32
-    → m ≡ pick (bit i x) (width k) 0 → m ≡ tried g k f i
-unfolding tried
-tried-by-bit g k f x i m e h d = d ∙ rw (e i h)
-
-module _ (g : Filters) (v : List ℕ) (w : ℕ) (k : FilterClass) (f : Fifo) (m : ℕ) where
-  unsearched : (i : ℕ) → searched g k f i ≡ false → hitIn m g v w k f i ≡ Nothing
-  unfolding hitIn tried first
-  unsearched i e = rw e
-
-  none-below : (x n : ℕ) → ((j : ℕ) → j < 32 → bit j x ≡ searched g k f j) → x ≡ 0 → n ≤ 32 → first (hitIn m g v w k f) n ≡ Nothing
-  unfolding first
-  none-below x zero e z h = refl
-  none-below x (suc n) e z h =
-      let none : bit n x ≡ false = rw (z, div-eq-of-lt (pow-pos n)) in
-      rw (none-below x n e z (omega arith), unsearched n (sym (e n (omega arith)) ∙ none))
-
--- where no bank is searched there is no hit
-pub no-bank-no-hit : (n : ℕ) (g : Filters) (v : List ℕ) (w : ℕ) (k : FilterClass) (f : Fifo) (x : ℕ)
-    → ((j : ℕ) → j < 32 → bit j x ≡ searched g k f j) → x ≡ 0 → n ≤ 32 → firstHit n g v w k f ≡ Nothing
-unfolding firstHit
-no-bank-no-hit n g v w k f x e z h = none-below g v w k f n x n e z h

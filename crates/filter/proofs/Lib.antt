@@ -1,1 +1,2 @@
 pub mod BankWords
+pub mod LeftBanks

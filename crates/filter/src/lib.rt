@@ -6,9 +6,9 @@ ghost use Prim.Native.Nat.{ℕ, _+_, _<_, _≤_};
 ghost use lib.Dec.{eqb};
 ghost use Rattle.model.specs.Base as base;
 ghost use Rattle.model.specs.Banks as banks;
+ghost use Rattle.model.specs.Banks.{shortWord};
 ghost use Rattle.model.specs.Search as search;
 ghost use Rattle.model.proofs.Digits as digits;
-use bits::bit;
 use bits::pick_u32;
 use model::Acceptance;
 use model::Bank;
@@ -45,8 +45,9 @@ fn takes_under(x: u32, m: u32, w: u32) -> bool
     w & m == x & m
 }
 
-// Whether filter j of a bank of class k with the words a and b takes a frame.
-pub fn matches(k: FilterClass, a: u32, b: u32, j: u32, w: u32) -> bool
+// Whether filter j of a bank of class k with the words a and b takes a frame; `short` is the frame's 16-bit word.
+fn takes(k: FilterClass, a: u32, b: u32, j: u32, w: u32, short: u32) -> bool
+    requires { ⌜ short ≡ shortWord w ⌝ }
     ensures { λ r. ⌜ r ≡ banks.matches k a b j w ⌝ }
 {
     match k {
@@ -60,18 +61,24 @@ pub fn matches(k: FilterClass, a: u32, b: u32, j: u32, w: u32) -> bool
             _ => false,
         },
         FilterClass::List16 => match j {
-            0 => short_word(w) == a % 65536,
-            1 => short_word(w) == a / 65536,
-            2 => short_word(w) == b % 65536,
-            3 => short_word(w) == b / 65536,
+            0 => short == a % 65536,
+            1 => short == a / 65536,
+            2 => short == b % 65536,
+            3 => short == b / 65536,
             _ => false,
         },
         FilterClass::Mask16 => match j {
-            0 => takes_under(a % 65536, a / 65536, short_word(w)),
-            1 => takes_under(b % 65536, b / 65536, short_word(w)),
+            0 => takes_under(a % 65536, a / 65536, short),
+            1 => takes_under(b % 65536, b / 65536, short),
             _ => false,
         },
     }
+}
+
+pub fn matches(k: FilterClass, a: u32, b: u32, j: u32, w: u32) -> bool
+    ensures { λ r. ⌜ r ≡ banks.matches k a b j w ⌝ }
+{
+    takes(k, a, b, j, w, short_word(w))
 }
 
 // ---- their numbers in a FIFO
@@ -145,53 +152,47 @@ fn of_class(g: Filters, k: FilterClass) -> u32
     }
 }
 
-// The word with a 1 for each bank that is searched; made once, so that the search passes the others by one test of a bit.
+// The word with a 1 for each bank that is searched.
 fn searched(g: Filters, k: FilterClass, f: Fifo) -> u32
     ensures { λ r. ⌜ ((i : ℕ) → i < 32 → base.bit i r ≡ search.searched g k f i) ⌝ }
 {
     g.activation & (own(f, g) & of_class(g, k))
 }
 
-// How many filters of a bank are looked at: none where the bank has no part in the search.
-fn tried(k: FilterClass, part: u32, b: Bank) -> u32
-    ensures { λ r. ⌜ r ≡ base.pick (base.bit (b .0) part) (banks.width k) 0 ⌝ }
-{
-    pick_u32(bit(b.0, part), width(k), 0)
-}
-
-// The matching filter with the lowest number; `part` is the word of the banks that are searched, often none.
+// The matching filter with the lowest number; `part` is the word of the banks that are searched, often none. The lowest
+// bank that is left comes next.
 fn first_hit(
     n: u32,
     g: Filters,
     banks: &[u32; 28],
     w: u32,
+    short: u32,
     k: FilterClass,
     f: Fifo,
     part: u32,
 ) -> Hit
     requires { ⌜ n ≤ 14 ⌝ }
+    requires { ⌜ short ≡ shortWord w ⌝ }
     requires { ⌜ ((i : ℕ) → i < 32 → base.bit i part ≡ search.searched g k f i) ⌝ }
     ensures { λ r. ⌜ r ≡ search.firstHit n g (now (banks .entry)) w k f ⌝ }
 {
-    if part == 0 {
-        return Hit::Nothing;
-    }
-    let mut i: u32 = 0;
+    let m = width(k);
+    let mut left = part;
     'search: loop {
+        let i = u32::trailing_zeros(left);
         if n <= i {
             break Hit::Nothing;
         }
-        let m = tried(k, part, Bank(i));
         let a = banks[(2 * i) as usize];
         let b = banks[(2 * i + 1) as usize];
         let mut j: u32 = 0;
         while j < m {
-            if matches(k, a, b, j, w) {
+            if takes(k, a, b, j, w, short) {
                 break 'search Hit::Filter(number(n, g, f, Bank(i), j));
             }
             j += 1;
         }
-        i += 1;
+        left = left & !(1 << i);
     }
 }
 
@@ -219,15 +220,16 @@ fn better(a: Hit, b: Hit) -> Acceptance
 }
 
 // One class in both FIFOs.
-fn best_of(n: u32, g: Filters, banks: &[u32; 28], w: u32, k: FilterClass) -> Acceptance
+fn best_of(n: u32, g: Filters, banks: &[u32; 28], w: u32, short: u32, k: FilterClass) -> Acceptance
     requires { ⌜ n ≤ 14 ⌝ }
+    requires { ⌜ short ≡ shortWord w ⌝ }
     ensures { λ r. ⌜ r ≡ search.better (search.firstHit n g (now (banks .entry)) w k Fifo.F0) (search.firstHit n g (now (banks .entry)) w k Fifo.F1) ⌝ }
 {
     let part0 = searched(g, k, Fifo::F0);
     let part1 = searched(g, k, Fifo::F1);
     better(
-        first_hit(n, g, banks, w, k, Fifo::F0, part0),
-        first_hit(n, g, banks, w, k, Fifo::F1, part1),
+        first_hit(n, g, banks, w, short, k, Fifo::F0, part0),
+        first_hit(n, g, banks, w, short, k, Fifo::F1, part1),
     )
 }
 
@@ -236,16 +238,17 @@ fn acceptance_of(n: u32, g: Filters, banks: &[u32; 28], w: u32) -> Acceptance
     requires { ⌜ n ≤ 14 ⌝ }
     ensures { λ r. ⌜ r ≡ search.acceptance n g (now (banks .entry)) w ⌝ }
 {
-    if let Acceptance::Into(f, x) = best_of(n, g, banks, w, FilterClass::List32) {
+    let short = short_word(w);
+    if let Acceptance::Into(f, x) = best_of(n, g, banks, w, short, FilterClass::List32) {
         return Acceptance::Into(f, x);
     }
-    if let Acceptance::Into(f, x) = best_of(n, g, banks, w, FilterClass::Mask32) {
+    if let Acceptance::Into(f, x) = best_of(n, g, banks, w, short, FilterClass::Mask32) {
         return Acceptance::Into(f, x);
     }
-    if let Acceptance::Into(f, x) = best_of(n, g, banks, w, FilterClass::List16) {
+    if let Acceptance::Into(f, x) = best_of(n, g, banks, w, short, FilterClass::List16) {
         return Acceptance::Into(f, x);
     }
-    best_of(n, g, banks, w, FilterClass::Mask16)
+    best_of(n, g, banks, w, short, FilterClass::Mask16)
 }
 
 // The FIFO that a frame goes to, and the filter that it passes.

@@ -126,8 +126,11 @@ pub fn word_of(c: Core, banks: &[u32; 28], e: Step, code: u8) -> u32
         Step::Activity => 0,
         Step::Start => {
             let k = c.control;
-            let t = c.transmit;
-            transmit::queue::sender_number(transmit::priority::first_of(bits::bit(2, k.mcr), t))
+            let b = c.transmit.mailboxes;
+            let q = c.transmit.queue;
+            let o = q.order;
+            let i = transmit::priority::identifiers(b);
+            transmit::queue::sender_number(transmit::priority::first(bits::bit(2, k.mcr), i, o))
         }
         Step::Outcome(_) => 0,
         Step::Receive(_) => 0,

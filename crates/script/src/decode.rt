@@ -1,7 +1,9 @@
 // The decoders: the step of a record's body, one function for each tag that has one. Each takes the part of the script
-// where the body lies; a byte that the part lacks counts as 0.
+// where the body lies, which is as long as the tag says.
 ghost use mathlib.Core.Path.{_≡_};
-ghost use Prim.Native.Nat.{_+_, _*_, _<_};
+ghost use mathlib.Core.Bool.{true};
+ghost use Prim.Native.Nat.{_+_, _*_, _≤_};
+ghost use lib.ListN.{length};
 ghost use Rattle.model.specs.Script as scripts;
 ghost use Rattle.model.specs.declared.Step.the-variants as step;
 use model::Frame;
@@ -15,24 +17,16 @@ pub(crate) fn pair(low: u8, high: u8) -> u16
     (low as u16) + (high as u16) * 256
 }
 
-fn byte_at(b: &[u8], i: usize) -> u8
-    ensures { λ r. ⌜ r ≡ scripts.byteAt (now (b .entry)) i ⌝ }
-{
-    if i < b.len() {
-        return b[i];
-    }
-    0
-}
-
 fn number16(b: &[u8], i: usize) -> u16
-    requires { ⌜ i < 16 ⌝ }
+    requires { ⌜ i + 2 ≤ length (now b) ⌝ }
     ensures { λ r. ⌜ r ≡ scripts.number16 (now (b .entry)) i ⌝ }
 {
-    pair(byte_at(b, i), byte_at(b, i + 1))
+    let j = i + 1;
+    pair(b[i], b[j])
 }
 
 fn number32(b: &[u8], i: usize) -> u32
-    requires { ⌜ i < 14 ⌝ }
+    requires { ⌜ i + 4 ≤ length (now b) ⌝ }
     ensures { λ r. ⌜ r ≡ scripts.number32 (now (b .entry)) i ⌝ }
 {
     let low = number16(b, i);
@@ -43,34 +37,39 @@ fn number32(b: &[u8], i: usize) -> u32
 // ---- a decoder for each tag that has a body
 
 fn read_step(b: &[u8]) -> Step
+    requires { ⌜ 2 ≤ length (now b) ⌝ }
     ensures { λ r. ⌜ r ≡ step.Read (scripts.number16 (now (b .entry)) 0) ⌝ }
 {
     Step::Read(number16(b, 0))
 }
 
 fn write_step(b: &[u8]) -> Step
+    requires { ⌜ 6 ≤ length (now b) ⌝ }
     ensures { λ r. ⌜ r ≡ step.Write (scripts.number16 (now (b .entry)) 0) (scripts.number32 (now (b .entry)) 2) ⌝ }
 {
     Step::Write(number16(b, 0), number32(b, 2))
 }
 
 fn bit_times_step(b: &[u8]) -> Step
+    requires { ⌜ 2 ≤ length (now b) ⌝ }
     ensures { λ r. ⌜ r ≡ step.BitTimes (scripts.number16 (now (b .entry)) 0) ⌝ }
 {
     Step::BitTimes(number16(b, 0))
 }
 
 fn outcome_step(b: &[u8]) -> Step
+    requires { ⌜ 1 ≤ length (now b) ⌝ }
     ensures { λ r. ⌜ r ≡ step.Outcome (scripts.byteAt (now (b .entry)) 0) ⌝ }
 {
-    Step::Outcome(byte_at(b, 0))
+    Step::Outcome(b[0])
 }
 
 fn receive_step(b: &[u8]) -> Step
+    requires { ⌜ 13 ≤ length (now b) ⌝ }
     ensures { λ r. ⌜ r ≡ step.Receive (record { identifier = (scripts.number32 (now (b .entry)) 0); low = (scripts.number32 (now (b .entry)) 5); high = (scripts.number32 (now (b .entry)) 9); length = (scripts.byteAt (now (b .entry)) 4) }) ⌝ }
 {
     let identifier = number32(b, 0);
-    let length = byte_at(b, 4);
+    let length = b[4];
     let low = number32(b, 5);
     let high = number32(b, 9);
     Step::Receive(Frame {
@@ -82,13 +81,15 @@ fn receive_step(b: &[u8]) -> Step
 }
 
 fn receive_error_step(b: &[u8]) -> Step
+    requires { ⌜ 2 ≤ length (now b) ⌝ }
     ensures { λ r. ⌜ r ≡ step.ReceiveError (scripts.byteAt (now (b .entry)) 0) (scripts.byteAt (now (b .entry)) 1) ⌝ }
 {
-    Step::ReceiveError(byte_at(b, 0), byte_at(b, 1))
+    Step::ReceiveError(b[0], b[1])
 }
 
 // The step of a tag and its body.
 pub(crate) fn decoded(tag: u8, b: &[u8]) -> Step
+    requires { ⌜ (scripts.isTag tag ≡ true) × (scripts.bodyLength tag ≤ length (now b)) ⌝ }
     ensures { λ r. ⌜ r ≡ scripts.decoded tag (now (b .entry)) ⌝ }
 {
     match tag {

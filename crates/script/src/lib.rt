@@ -1,16 +1,18 @@
 // Bench scripts: one record read from a place, its reply, and the replay of a whole script.
 ghost use mathlib.Core.Path.{_≡_};
+ghost use mathlib.Core.List.{[]};
 ghost use Prim.Native.Nat.{_≤_};
-ghost use mathlib.Core.Bool.{_||_};
+ghost use mathlib.Core.Bool.{false, _||_};
 ghost use lib.Dec.{eqb};
 ghost use lib.ListN.{length};
 ghost use Rattle.model.specs.Base as base;
 ghost use Rattle.model.specs.Script as scripts;
-ghost use Rattle.model.specs.Step as stepping;
+ghost use Rattle.script.specs.OneWay as way;
 use model::Controller;
 use model::Reading;
 use model::Replay;
 use model::Replayed;
+use model::Step;
 
 mod decode;
 
@@ -71,6 +73,69 @@ pub fn reading(script: &[u8], place: usize) -> Reading
 
 // ---- one record
 
+// Without space for a reply, what was read can't be answered: code 9.
+fn answerable(x: Reading, space: usize) -> Reading
+    ensures { λ r. ⌜ r ≡ way.answerable x space ⌝ }
+{
+    match x {
+        Reading::End => Reading::End,
+        Reading::Malformed(k) => {
+            if space < 9 {
+                return Reading::Malformed(9);
+            }
+            Reading::Malformed(k)
+        }
+        Reading::Found(e, q) => {
+            if space < 9 {
+                return Reading::Malformed(9);
+            }
+            Reading::Found(e, q)
+        }
+    }
+}
+
+// The step that is done. Where there is none, it is one that every state refuses: no bit times at all.
+fn step_of(x: Reading) -> Step
+    ensures { λ r. ⌜ r ≡ way.stepOf x ⌝ }
+{
+    match x {
+        Reading::End => Step::BitTimes(0),
+        Reading::Malformed(_) => Step::BitTimes(0),
+        Reading::Found(e, _) => e,
+    }
+}
+
+fn code_of(x: Reading, code: u8) -> u8
+    ensures { λ r. ⌜ r ≡ way.codeOf x code ⌝ }
+{
+    match x {
+        Reading::End => 0,
+        Reading::Malformed(k) => k,
+        Reading::Found(_, _) => code,
+    }
+}
+
+// The place afterwards, from `place` in a script of n bytes.
+fn place_of(x: Reading, n: usize, place: usize) -> usize
+    ensures { λ r. ⌜ r ≡ way.placeOf x n place ⌝ }
+{
+    match x {
+        Reading::End => n,
+        Reading::Malformed(_) => place,
+        Reading::Found(_, q) => q,
+    }
+}
+
+fn is_end(x: Reading) -> bool
+    ensures { λ r. ⌜ r ≡ way.isEnd x ⌝ }
+{
+    match x {
+        Reading::End => true,
+        Reading::Malformed(_) => false,
+        Reading::Found(_, _) => false,
+    }
+}
+
 // 81 06 00, code, lines, word.
 fn write_reply(reply: &mut [u8], code: u8, lines: u8, word: u32)
     requires { ⌜ 9 ≤ length (now reply) ⌝ }
@@ -87,54 +152,37 @@ fn write_reply(reply: &mut [u8], code: u8, lines: u8, word: u32)
     reply[8] = ((word >> 24) % 256) as u8;
 }
 
-// No step is done: the state and its lines as they are, word 0.
-fn unchanged(z: Controller, place: usize, ended: bool, code: u8) -> Replayed
-    ensures { λ r. ⌜ r ≡ record { controller = z; place = place; ended = ended; code = code; lines = stepping.linesOf (z .core); word = 0 } ⌝ }
+// The end and code 9 have no reply.
+fn write_answer(reply: &mut [u8], ended: bool, code: u8, lines: u8, word: u32)
+    requires { ⌜ ((ended || eqb code 9) ≡ false → 9 ≤ length (now reply)) ⌝ }
+    ensures { λ _. ⌜ now (reply .exit) ≡ scripts.overwritten (base.pick (ended || eqb code 9) [] (scripts.reply code lines word)) (now (reply .entry)) ⌝ }
 {
-    let c = z.core;
-    Replayed {
-        controller: z,
-        place: place,
-        ended: ended,
-        code: code,
-        lines: reads::lines_of(c),
-        word: 0,
+    if ended | (code == 9) {
+        return;
     }
+    write_reply(reply, code, lines, word);
 }
 
-// One record: it is read, its step is done, and its reply is written to the first nine bytes of the reply space.
+// One record: it is read, its step is done, and its reply is written to the first nine bytes of the reply space. The
+// state has one way through: a second call that takes it would copy it in every record.
 pub fn replayed(z: Controller, script: &[u8], place: usize, reply: &mut [u8]) -> Replayed
     ensures { λ r. ⌜ r ≡ scripts.recordAt z (now (script .entry)) place (length (now (reply .entry))) ⌝ }
     ensures { λ r. ⌜ now (reply .exit) ≡ scripts.overwritten (scripts.replyOf r) (now (reply .entry)) ⌝ }
 {
-    let x = reading(script, place);
-    let space = reply.len();
-    match x {
-        Reading::End => unchanged(z, script.len(), true, 0),
-        Reading::Malformed(k) => {
-            if space < 9 {
-                return unchanged(z, place, false, 9);
-            }
-            let r = unchanged(z, place, false, k);
-            write_reply(reply, r.code, r.lines, r.word);
-            r
-        }
-        Reading::Found(e, q) => {
-            if space < 9 {
-                return unchanged(z, place, false, 9);
-            }
-            let a = controller::step(z, e);
-            write_reply(reply, a.code, a.lines, a.word);
-            let d = a.controller;
-            Replayed {
-                controller: d,
-                place: q,
-                ended: false,
-                code: a.code,
-                lines: a.lines,
-                word: a.word,
-            }
-        }
+    let x = answerable(reading(script, place), reply.len());
+    let a = controller::step(z, step_of(x));
+    let d = a.controller;
+    let code = code_of(x, a.code);
+    let ended = is_end(x);
+    let next = place_of(x, script.len(), place);
+    write_answer(reply, ended, code, a.lines, a.word);
+    Replayed {
+        controller: d,
+        place: next,
+        ended: ended,
+        code: code,
+        lines: a.lines,
+        word: a.word,
     }
 }
 
@@ -168,11 +216,11 @@ pub fn replay(z: Controller, script: &[u8], replies: &mut [u8]) -> Replay
     let mut written: usize = 0;
     loop {
         let r = replayed(state, script, place, &mut replies[written..]);
-        let next = r.controller;
+        state = r.controller;
         if stops(r.ended, r.code) {
             let all = written + reply_length(r.ended, r.code);
             return Replay {
-                controller: next,
+                controller: state,
                 place: r.place,
                 records: records,
                 written: all,
@@ -182,7 +230,6 @@ pub fn replay(z: Controller, script: &[u8], replies: &mut [u8]) -> Replay
                 word: r.word,
             };
         }
-        state = next;
         place = r.place;
         records += 1;
         written += 9;

@@ -22,13 +22,16 @@ sent-frame-requires : tie.Need-sent-frame-requires
 sent-frame-requires c κs = search needs
 
 -- src/lib.rt:81:9
+same-filters-requires : tie.Need-same-filters-requires
+same-filters-requires c κs = search needs
+
 acceptance-requires : tie.Need-acceptance-requires
 acceptance-requires c κs = search needs
 
 -- src/lib.rt:81:9
 returns : tie.Need-returns
 unfolding loopedBack
-returns c = simp (c .acceptance .ensures, c .before .sent-frame .ensures, c .before .before .at .ensures, c .before .before .before .before .if1 .taken, ← (c .before .before .before .before .before .before .bit .ensures))
+returns c = simp (c .acceptance .ensures, c .before .same-filters .ensures, c .before .before .sent-frame .ensures, c .before .before .before .at .ensures, c .before .before .before .before .before .if1 .taken, ← (c .before .before .before .before .before .before .before .bit .ensures))
 
 -- src/lib.rt:73:1
 returns-2 : tie.Need-returns-2
@@ -38,4 +41,4 @@ returns-2 c = simp (c .if1 .left, ← (c .before .before .bit .ensures))
 pub looped-back-spec : {M : Type 1} → statement M
 looped-back-spec =
     tie.close
-    (tie.spec bit-requires at-requires sent-frame-requires acceptance-requires returns returns-2)
+    (tie.spec bit-requires at-requires sent-frame-requires same-filters-requires acceptance-requires returns returns-2)

@@ -5,6 +5,9 @@ use borrow.Author.Needs.{needs}
 use Rattle.filter.proofs.acceptance_of.Statement.{statement}
 use Rattle.filter.proofs.acceptance_of.Tie as tie
 
+short-word-requires : tie.Need-short-word-requires
+short-word-requires c κs = search needs
+
 best-of-requires : tie.Need-best-of-requires
 best-of-requires c κs = search needs
 
@@ -55,6 +58,7 @@ pub acceptance-of-spec : {M : Type 1} → statement M
 acceptance-of-spec =
     tie.close
     (tie.spec
+    short-word-requires
     best-of-requires
     enum-known-f
     returns

@@ -8,7 +8,8 @@ use Rattle.reads.proofs.word_of.Lts as lts
 use Rattle.bits.proofs.bit.Reads as bit-reads
 use Rattle.reads.proofs.read_word.Reads as read-word-reads
 use Rattle.registers.proofs.register_at.Reads as register-at-reads
-use Rattle.transmit.proofs.priority.first_of.Reads as first-of-reads
+use Rattle.transmit.proofs.priority.first.Reads as first-reads
+use Rattle.transmit.proofs.priority.identifiers.Reads as identifiers-reads
 use Rattle.transmit.proofs.queue.sender_number.Reads as sender-number-reads
 
 -- src/lib.rt:119:9
@@ -53,12 +54,15 @@ enum-told-6 : tie.Need-enum-told-6
 enum-told-6 c = search needs
 
 -- src/lib.rt:131:73
+identifiers-requires : tie.Need-identifiers-requires
+identifiers-requires c κs = search needs
+
 bit-requires : tie.Need-bit-requires
 bit-requires c κs = search needs
 
 -- src/lib.rt:131:44
-first-of-requires : tie.Need-first-of-requires
-first-of-requires c κs = search needs
+first-requires : tie.Need-first-requires
+first-requires c κs = search needs
 
 -- src/lib.rt:131:13
 sender-number-requires : tie.Need-sender-number-requires
@@ -109,7 +113,7 @@ returns-7 c = simp (c .enum-told5 .given .1, eq-eqb _ _ (c .before .before .if1 
 -- src/lib.rt:115:1
 returns-8 : tie.Need-returns-8
 unfolding wordOf
-returns-8 c = simp (c .sender-number .ensures, c .before .first-of .ensures, c .before .before .bit .ensures, c .before .before .before .before .before .enum-told6 .given .1, eq-eqb _ _ (c .before .before .before .before .before .before .before .if1 .left))
+returns-8 c = simp (c .sender-number .ensures, c .before .first .ensures, c .before .before .bit .ensures, c .before .before .before .identifiers .ensures, c .before .before .before .before .before .before .before .enum-told6 .given .1, eq-eqb _ _ (c .before .before .before .before .before .before .before .before .before .if1 .left))
 
 -- src/lib.rt:115:1
 returns-9 : tie.Need-returns-9
@@ -140,8 +144,9 @@ word-of-spec =
     enum-told-4
     enum-told-5
     enum-told-6
+    identifiers-requires
     bit-requires
-    first-of-requires
+    first-requires
     sender-number-requires
     enum-told-7
     enum-told-8

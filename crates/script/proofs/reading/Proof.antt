@@ -1,6 +1,9 @@
 -- Each return by the tests that led to it.
+use mathlib.Core.Path.{sym, _∙_}
+use native.Mathlib.Omega.{arith}
+use lib.ListN.{length-take, length-drop}
 use Rattle.model.specs.Script.{reading}
-use borrow.Author.Tests.{eq-eqb, ne-eqb, lt-ltb, le-ltb, le-leb, lt-leb}
+use borrow.Author.Tests.{not-false, eq-eqb, ne-eqb, lt-ltb, le-ltb, le-leb, lt-leb}
 use borrow.Author.Needs.{needs}
 use Rattle.script.proofs.reading.Statement.{statement}
 use Rattle.script.proofs.reading.Tie as tie
@@ -74,7 +77,10 @@ part-decoded-end : tie.Need-part-decoded-end
 part-decoded-end c = search needs
 
 decoded-requires : tie.Need-decoded-requires
-decoded-requires c κs = search needs
+decoded-requires c κs = (
+  sym (c .before .before .before .before .before .before .before .before .is-tag .ensures) ∙ not-false _ (c .before .before .before .before .before .before .before .if3 .left),
+  simp (length-take, length-drop) (omega (arith, c .before .before .before .body-length .ensures)),
+)
 
 returns-6 : tie.Need-returns-6
 unfolding reading

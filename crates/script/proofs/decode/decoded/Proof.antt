@@ -1,27 +1,41 @@
 -- Each tag by its decoder.
-use Rattle.model.specs.Script.{decoded}
+use mathlib.Core.Path.{_≡_}
+use native.Mathlib.Nat.{le-antisymm}
+use Rattle.model.specs.Script.{bodyLength, decoded}
+use Rattle.script.proofs.Bodies.{fits, tag-range, past}
 use borrow.Author.Tests.{ne-eqb}
 use borrow.Author.Needs.{needs}
 use Rattle.script.proofs.decode.decoded.Statement.{statement}
 use Rattle.script.proofs.decode.decoded.Tie as tie
 
 read-step-requires : tie.Need-read-step-requires
-read-step-requires c κs = search needs
+unfolding bodyLength
+read-step-requires c κs = fits _ _ _ (c .match .keys2) (c .before .before .pre .1)
 
 write-step-requires : tie.Need-write-step-requires
-write-step-requires c κs = search needs
+unfolding bodyLength
+write-step-requires c κs = fits _ _ _ (c .match .keys3) (c .before .before .pre .1)
 
 bit-times-step-requires : tie.Need-bit-times-step-requires
-bit-times-step-requires c κs = search needs
+unfolding bodyLength
+bit-times-step-requires c κs = fits _ _ _ (c .match .keys5) (c .before .before .pre .1)
 
 outcome-step-requires : tie.Need-outcome-step-requires
-outcome-step-requires c κs = search needs
+unfolding bodyLength
+outcome-step-requires c κs = fits _ _ _ (c .match .keys8) (c .before .before .pre .1)
 
 receive-step-requires : tie.Need-receive-step-requires
-receive-step-requires c κs = search needs
+unfolding bodyLength
+receive-step-requires c κs = fits _ _ _ (c .match .keys9) (c .before .before .pre .1)
 
 receive-error-step-requires : tie.Need-receive-error-step-requires
-receive-error-step-requires c κs = search needs
+unfolding bodyLength
+receive-error-step-requires c κs =
+    let r = c .match .rest in
+    let range = tag-range (c .before .before .args .tag) (c .before .before .pre .0) in
+    let above = past _ 9 (past _ 8 (past _ 7 (past _ 6 (past _ 5 (past _ 4 (past _ 3 (past _ 2 (past _ 1 (range .0) (r .0 .0 .0 .0 .0 .0 .0 .0 .1)) (r .0 .0 .0 .0 .0 .0 .0 .1)) (r .0 .0 .0 .0 .0 .0 .1)) (r .0 .0 .0 .0 .0 .1)) (r .0 .0 .0 .0 .1)) (r .0 .0 .0 .1)) (r .0 .0 .1)) (r .0 .1)) (r .1) in
+    let last : c .before .before .args .tag ≡ 10 = le-antisymm (range .1) above in
+    fits _ _ _ last (c .before .before .pre .1)
 
 returns : tie.Need-returns
 unfolding decoded

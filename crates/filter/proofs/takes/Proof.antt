@@ -5,8 +5,8 @@ use Rattle.model.specs.Banks.{matches}
 use Rattle.model.specs.declared.FilterClass.the-variants.{List32, Mask32, List16, Mask16}
 use Rattle.model.proofs.FirstHit.{no-filter}
 use borrow.Author.Needs.{needs}
-use Rattle.filter.proofs.matches.Statement.{statement}
-use Rattle.filter.proofs.matches.Tie as tie
+use Rattle.filter.proofs.takes.Statement.{statement}
+use Rattle.filter.proofs.takes.Tie as tie
 
 enum-told : tie.Need-enum-told
 enum-told c = search needs
@@ -20,29 +20,11 @@ takes-under-requires c κs = search needs
 enum-told-3 : tie.Need-enum-told-3
 enum-told-3 c = search needs
 
-short-word-requires : tie.Need-short-word-requires
-short-word-requires c κs = search needs
-
-short-word-requires-2 : tie.Need-short-word-requires-2
-short-word-requires-2 c κs = search needs
-
-short-word-requires-3 : tie.Need-short-word-requires-3
-short-word-requires-3 c κs = search needs
-
-short-word-requires-4 : tie.Need-short-word-requires-4
-short-word-requires-4 c κs = search needs
-
 enum-told-4 : tie.Need-enum-told-4
 enum-told-4 c = search needs
 
-short-word-requires-5 : tie.Need-short-word-requires-5
-short-word-requires-5 c κs = search needs
-
 takes-under-requires-2 : tie.Need-takes-under-requires-2
 takes-under-requires-2 c κs = search needs
-
-short-word-requires-6 : tie.Need-short-word-requires-6
-short-word-requires-6 c κs = search needs
 
 takes-under-requires-3 : tie.Need-takes-under-requires-3
 takes-under-requires-3 c κs = search needs
@@ -67,50 +49,44 @@ returns-5 c = simp (c .before .enum-told2 .given .1) (sym (no-filter Mask32 _ _ 
 
 returns-6 : tie.Need-returns-6
 unfolding matches
-returns-6 c = simp (c .short-word .ensures, c .before .before .enum-told3 .given .1, c .before .match4 .keys1)
+returns-6 c = simp (c .before .enum-told3 .given .1, c .match4 .keys1, c .before .before .before .pre)
 
 returns-7 : tie.Need-returns-7
 unfolding matches
-returns-7 c = simp (c .short-word2 .ensures, c .before .before .enum-told3 .given .1, c .before .match4 .keys2)
+returns-7 c = simp (c .before .enum-told3 .given .1, c .match4 .keys2, c .before .before .before .pre)
 
 returns-8 : tie.Need-returns-8
 unfolding matches
-returns-8 c = simp (c .short-word3 .ensures, c .before .before .enum-told3 .given .1, c .before .match4 .keys3)
+returns-8 c = simp (c .before .enum-told3 .given .1, c .match4 .keys3, c .before .before .before .pre)
 
 returns-9 : tie.Need-returns-9
 unfolding matches
-returns-9 c = simp (c .short-word4 .ensures, c .before .before .enum-told3 .given .1, c .before .match4 .keys4)
+returns-9 c = simp (c .before .enum-told3 .given .1, c .match4 .keys4, c .before .before .before .pre)
 
 returns-10 : tie.Need-returns-10
 returns-10 c = simp (c .before .enum-told3 .given .1) (sym (no-filter List16 _ _ _ _ (omega arith)))
 
 returns-11 : tie.Need-returns-11
 unfolding matches
-returns-11 c = simp (c .takes-under2 .ensures, c .before .short-word5 .ensures, c .before .before .before .enum-told4 .given .1, c .before .before .match5 .keys1)
+returns-11 c = simp (c .takes-under2 .ensures, c .before .before .enum-told4 .given .1, c .before .match5 .keys1, c .before .before .before .before .pre)
 
 returns-12 : tie.Need-returns-12
 unfolding matches
-returns-12 c = simp (c .takes-under3 .ensures, c .before .short-word6 .ensures, c .before .before .before .enum-told4 .given .1, c .before .before .match5 .keys2)
+returns-12 c = simp (c .takes-under3 .ensures, c .before .before .enum-told4 .given .1, c .before .match5 .keys2, c .before .before .before .before .pre)
 
 returns-13 : tie.Need-returns-13
 returns-13 c = simp (c .before .enum-told4 .given .1) (sym (no-filter Mask16 _ _ _ _ (omega arith)))
 
-pub matches-spec : {M : Type 1} → statement M
-matches-spec =
+pub takes-spec : {M : Type 1} → statement M
+takes-spec =
     tie.close
     (tie.spec
     enum-told
     enum-told-2
     takes-under-requires
     enum-told-3
-    short-word-requires
-    short-word-requires-2
-    short-word-requires-3
-    short-word-requires-4
     enum-told-4
-    short-word-requires-5
     takes-under-requires-2
-    short-word-requires-6
     takes-under-requires-3
     returns
     returns-2
