@@ -1,0 +1,9 @@
+pub mod Again
+pub mod Lies
+pub mod Looping
+pub mod Placed
+pub mod Recording
+pub mod Single
+pub mod Thin
+pub mod Told
+pub mod Turns
