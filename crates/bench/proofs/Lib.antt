@@ -1,6 +1,8 @@
 pub mod Again
 pub mod Lies
 pub mod Looping
+pub mod On
+pub mod Passing
 pub mod Placed
 pub mod Recording
 pub mod Single

@@ -29,7 +29,7 @@ use denote.Laws.{Is, shows}
 use denote.Lend.{lends-ref, ref-back}
 use denote.Memory.{mem, partAt, pointee}
 use denote.Builtin.{u8}
-use denote.Ref.{RefT, MutRef}
+use denote.Ref.{MutRef}
 use denote.Slice.{sliceTy, sliceVal, MutSlice, Room, finally}
 use denote.Steps.{only, peeks, heard, nothing}
 use denote.Triple.Call.{calls-from, calls-from-last}

@@ -1,5 +1,5 @@
 -- The walk of `replay_record`: as `Thin.walk`, with a script that is passed on, a place in it, a reply space that is lent on for good, and a place in it. The types are variables: what the walk says holds of any.
-use mathlib.Core.Path.{_≡_, refl, ap}
+use mathlib.Core.Path.{refl, ap}
 use Prim.Native.Nat.{ℕ, _<_, _^_}
 use mathlib.Core.Bool.{Bool}
 use mathlib.Core.List.{[], _∷_, List}
@@ -12,7 +12,7 @@ use base.Logic.{SProp, ent, sep, ex}
 use base.Fml.{GName, Lft, Share, Fml, fsep, fat, flft}
 use prog.Wp.{Heap, Calls, Loops, WpFn}
 use ghost.Atoms.{Atoms, sem}
-use types.Kit.{Given, ‵, raw, some, later, _⊛_, _$_, _∵_, !, qed, by, move, keep, drop, use1, split, join, pick, rewrite, fsplit, fsplit3, await}
+use types.Kit.{Given, ‵, raw, some, later, _⊛_, _$_, _∵_, !, qed, by, move, drop, use1, split, join, pick, rewrite, fsplit, fsplit3, await}
 use types.Run.{look, look-raw, store-raw, init, forget, stop, hop, fld, from, load, addr, of-opd, and-then, no-more, assigns, land, returns, enter, alloc1, alloc0, params1, pass1, pass0, free1, free0}
 use types.Part.{agg, whole, sub, look-in}
 use types.SemTy.{Body}

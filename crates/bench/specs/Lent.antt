@@ -1,21 +1,28 @@
 -- What is said where the controller is lent: the answers without the controller, the reply space from a place on, and how far a replay has come.
 use mathlib.Core.Bool.{Bool, true, false, not, _||_}
+use mathlib.Core.Path.{_≡_}
 use mathlib.Core.List.{List, _++_}
 use Prim.Native.Nat.{ℕ, _+_, _-_}
 use lib.Dec.{eqb, leb}
 use lib.ListN.{length, take, drop}
 use Rattle.model.specs.Base.{pick, one}
-use Rattle.model.specs.Script.{recordAt, overwritten, stops}
+use Rattle.model.specs.Script.{recordAt, replyOf, overwritten, stops}
+use Rattle.model.specs.Step.{step}
 use Rattle.model.specs.declared.Answer.{Answer}
 use Rattle.model.specs.declared.Controller.{Controller}
 use Rattle.model.specs.declared.Replay.{Replay}
 use Rattle.model.specs.declared.Replayed.{Replayed}
+use Rattle.model.specs.declared.Step.{Step}
 use Rattle.model.specs.declared.Stepped.{Stepped}
 use Rattle.bench.specs.declared.Progress.{Progress}
 use Rattle.bench.specs.declared.Recorded.{Recorded}
 
 abbrev pub answerOf : Stepped → Answer
 answerOf a = record { code = a .code; lines = a .lines; word = a .word }
+
+-- a step taken on a lent controller z: the answer, and the controller afterwards
+abbrev pub Taken : Controller → Step → Answer → Controller → Type 0
+Taken z e r z′ = (r ≡ answerOf (step z e)) × (z′ ≡ step z e .controller)
 
 abbrev pub recordedOf : Replayed → Recorded
 recordedOf r = record { place = r .place; ended = r .ended; code = r .code; lines = r .lines; word = r .word }
@@ -31,6 +38,10 @@ placed w r space = take w space ++ overwritten r (drop w space)
 -- what the record at place p gives, with the reply space from place w on
 abbrev pub recordIn : Controller → List ℕ → ℕ → List ℕ → ℕ → Replayed
 recordIn z s p space w = recordAt z s p (length space - w)
+
+-- a record x taken on a lent controller, its reply from place w on: the answer, and the controller and the reply space afterwards
+abbrev pub RecordTaken : Replayed → ℕ → List ℕ → Recorded → Controller → List ℕ → Type 0
+RecordTaken x w space r z′ space′ = (r ≡ recordedOf x) × ((z′ ≡ x .controller) × (space′ ≡ placed w (replyOf x) space))
 
 -- how many bytes a record's reply has
 abbrev pub replyBytes : Bool → ℕ → ℕ

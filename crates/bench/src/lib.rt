@@ -4,10 +4,11 @@ ghost use mathlib.Core.Path.{_≡_};
 ghost use Prim.Native.Nat.{_+_, _<_, _^_};
 ghost use lib.ListN.{length};
 ghost use Rattle.model.specs.Script as scripts;
-ghost use Rattle.model.specs.Step as stepping;
+ghost use Rattle.model.specs.declared.Step.the-variants as steps;
 ghost use Rattle.bench.specs.Lent as lent;
 use model::Answer;
 use model::Controller;
+use model::Frame;
 use model::Replay;
 use model::Replayed;
 use model::Step;
@@ -15,7 +16,7 @@ use model::Step;
 // ---- one step
 
 pub fn step(c: &mut Controller, e: Step) -> Answer
-    ensures { λ r. ⌜ (r ≡ lent.answerOf (stepping.step (now (c .entry)) e)) × (now (c .exit) ≡ stepping.step (now (c .entry)) e .controller) ⌝ }
+    ensures { λ r. ⌜ lent.Taken (now (c .entry)) e r (now (c .exit)) ⌝ }
 {
     let s = controller::step(*c, e);
     *c = s.controller;
@@ -24,6 +25,70 @@ pub fn step(c: &mut Controller, e: Step) -> Answer
         lines: s.lines,
         word: s.word,
     }
+}
+
+// ---- each register access and bus event
+
+pub fn hardware_reset(c: &mut Controller) -> Answer
+    ensures { λ r. ⌜ lent.Taken (now (c .entry)) steps.Reset r (now (c .exit)) ⌝ }
+{
+    step(c, Step::Reset)
+}
+
+pub fn read(c: &mut Controller, offset: u16) -> Answer
+    ensures { λ r. ⌜ lent.Taken (now (c .entry)) (steps.Read offset) r (now (c .exit)) ⌝ }
+{
+    step(c, Step::Read(offset))
+}
+
+pub fn write(c: &mut Controller, offset: u16, word: u32) -> Answer
+    ensures { λ r. ⌜ lent.Taken (now (c .entry)) (steps.Write offset word) r (now (c .exit)) ⌝ }
+{
+    step(c, Step::Write(offset, word))
+}
+
+// 11 recessive bits.
+pub fn idle(c: &mut Controller) -> Answer
+    ensures { λ r. ⌜ lent.Taken (now (c .entry)) steps.Idle r (now (c .exit)) ⌝ }
+{
+    step(c, Step::Idle)
+}
+
+pub fn bit_times(c: &mut Controller, n: u16) -> Answer
+    ensures { λ r. ⌜ lent.Taken (now (c .entry)) (steps.BitTimes n) r (now (c .exit)) ⌝ }
+{
+    step(c, Step::BitTimes(n))
+}
+
+pub fn activity(c: &mut Controller) -> Answer
+    ensures { λ r. ⌜ lent.Taken (now (c .entry)) steps.Activity r (now (c .exit)) ⌝ }
+{
+    step(c, Step::Activity)
+}
+
+pub fn start(c: &mut Controller) -> Answer
+    ensures { λ r. ⌜ lent.Taken (now (c .entry)) steps.Start r (now (c .exit)) ⌝ }
+{
+    step(c, Step::Start)
+}
+
+// The end of the frame on the wire: 0 good, 1 to 6 an error code, 7 arbitration lost.
+pub fn outcome(c: &mut Controller, result: u8) -> Answer
+    ensures { λ r. ⌜ lent.Taken (now (c .entry)) (steps.Outcome result) r (now (c .exit)) ⌝ }
+{
+    step(c, Step::Outcome(result))
+}
+
+pub fn frame_received(c: &mut Controller, x: Frame) -> Answer
+    ensures { λ r. ⌜ lent.Taken (now (c .entry)) (steps.Receive x) r (now (c .exit)) ⌝ }
+{
+    step(c, Step::Receive(x))
+}
+
+pub fn receive_error(c: &mut Controller, code: u8, by: u8) -> Answer
+    ensures { λ r. ⌜ lent.Taken (now (c .entry)) (steps.ReceiveError code by) r (now (c .exit)) ⌝ }
+{
+    step(c, Step::ReceiveError(code, by))
 }
 
 // ---- one record of a script
@@ -69,7 +134,7 @@ pub fn replay_record(
     replies: &mut [u8],
     written: usize,
 ) -> Recorded
-    ensures { λ r. ⌜ (r ≡ lent.recordedOf (lent.recordIn (now (c .entry)) (now (script .entry)) place (now (replies .entry)) written)) × ((now (c .exit) ≡ lent.recordIn (now (c .entry)) (now (script .entry)) place (now (replies .entry)) written .controller) × (now (replies .exit) ≡ lent.placed written (scripts.replyOf (lent.recordIn (now (c .entry)) (now (script .entry)) place (now (replies .entry)) written)) (now (replies .entry)))) ⌝ }
+    ensures { λ r. ⌜ lent.RecordTaken (lent.recordIn (now (c .entry)) (now (script .entry)) place (now (replies .entry)) written) written (now (replies .entry)) r (now (c .exit)) (now (replies .exit)) ⌝ }
 {
     let s = replayed_at(*c, script, place, replies, written);
     *c = s.controller;

@@ -36,7 +36,6 @@ use denote.Triple.Clauses.{Lasts, ensured, lasts}
 use denote.Triple.Table.{entered, cited}
 use denote.Triple.Walked.{says, Stays, stay-dropped, stay-slice, walkOf, goes-dropped, goes-slice, Walks, ends-at, walked, walk-meets}
 use denote.Exit.{yes}
-use Rattle.model.specs.Script.{replyOf}
 use Rattle.model.specs.declared.Controller.{Controller}
 use Rattle.model.specs.declared.Replay.{Replay}
 use Rattle.model.specs.declared.Replayed.{Replayed}
@@ -44,7 +43,7 @@ use Rattle.model.proofs.Controller as T
 use Rattle.model.proofs.Controller.Laws as T′
 use Rattle.model.proofs.Replay as Rp
 use Rattle.model.proofs.Replay.Laws as Rp′
-use Rattle.bench.specs.Lent.{recordedOf, recordIn, placed, replyBytes}
+use Rattle.bench.specs.Lent.{recordIn, RecordTaken, replyBytes}
 use Rattle.bench.specs.Lent as defined
 use Rattle.bench.specs.declared.Progress.{Progress}
 use Rattle.bench.specs.declared.Recorded.{Recorded}
@@ -153,7 +152,7 @@ module _ {M : Type 1} (𝓤 : URA M) (H : Heap 𝓤) (A : Atoms 𝓤) (W : Given
   given c p ys = recordIn c script (p .place) ys (p .written)
 
   abbrev Done : Controller → Progress → List ℕ → Recorded → Controller → List ℕ → Type 0
-  Done c p ys a c′ zs = (a ≡ recordedOf (given c p ys)) × ((c′ ≡ given c p ys .controller) × (zs ≡ placed (p .written) (replyOf (given c p ys)) ys))
+  Done c p ys a c′ zs = RecordTaken (given c p ys) (p .written) ys a c′ zs
 
   abbrev μ : Progress → ℕ
   μ p = left start script xs (p .going) (p .place)
