@@ -1,11 +1,11 @@
 pub mod Again
+pub mod CallWalks
 pub mod Lies
-pub mod Looping
-pub mod On
-pub mod Passing
+pub mod LoopWalk
+pub mod NamedCalls
 pub mod Placed
-pub mod Recording
+pub mod RecordWalk
 pub mod Single
-pub mod Thin
+pub mod StepWalk
 pub mod Told
 pub mod Turns

@@ -9,7 +9,7 @@ use Rattle.model.proofs.Frame as Fr
 use Rattle.model.proofs.Frame.Laws as Fr′
 use Rattle.model.proofs.Step as St
 use Rattle.model.proofs.Step.Laws as St′
-use Rattle.bench.proofs.On.{met₁}
+use Rattle.bench.proofs.NamedCalls.{met₁}
 use Rattle.bench.proofs.Single.{of-struct}
 use Rattle.bench.proofs.step as step
 use Rattle.bench.proofs.step.Symbol as step-def

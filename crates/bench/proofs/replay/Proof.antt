@@ -1,4 +1,4 @@
--- `Looping.walk` at the four functions that the loop calls: what each call asks and gives, and what is owed at the end.
+-- `LoopWalk.walk` at the four functions that the loop calls: what each call asks and gives, and what is owed at the end.
 use mathlib.Core.Path.{_≡_, refl, sym, _∙_, subst}
 use mathlib.Core.Bool.{Bool, true, false}
 use Prim.Native.Nat.{ℕ, _+_, _<_, _^_}
@@ -51,7 +51,7 @@ use Rattle.bench.proofs.Progress as Pg
 use Rattle.bench.proofs.Progress.Laws as Pg′
 use Rattle.bench.proofs.Recorded as An
 use Rattle.bench.proofs.Recorded.Laws as An′
-use Rattle.bench.proofs.Looping as looping
+use Rattle.bench.proofs.LoopWalk as looping
 use Rattle.bench.proofs.Single.{of-struct}
 use Rattle.bench.proofs.Told.{said-only, told}
 use Rattle.bench.proofs.Turns.{Turned, left, turned-begun, records-fit, written-fit, turned, nearer}

@@ -1,4 +1,4 @@
--- `Recording.walk` at `replayed_at`: what the call asks and gives, and what is owed at the end.
+-- `RecordWalk.walk` at `replayed_at`: what the call asks and gives, and what is owed at the end.
 use mathlib.Core.Path.{_≡_, refl, ap, _∙_}
 use Prim.Native.Nat.{ℕ, _<_, _^_}
 use mathlib.Core.List.{[], _∷_, List}
@@ -46,7 +46,7 @@ use Rattle.bench.specs.Lent.{recordedOf, recordIn, placed}
 use Rattle.bench.specs.declared.Recorded.{Recorded}
 use Rattle.bench.proofs.Recorded as An
 use Rattle.bench.proofs.Recorded.Laws as An′
-use Rattle.bench.proofs.Recording as recording
+use Rattle.bench.proofs.RecordWalk as recording
 use Rattle.bench.proofs.Single.{of-struct}
 use Rattle.bench.proofs.replayed_at as by-value
 use Rattle.bench.proofs.replayed_at.Symbol as by-value-def

@@ -1,4 +1,4 @@
--- `Thin.walk` at `controller::step`: what the call asks and gives, and what is owed at the end.
+-- `StepWalk.walk` at `controller::step`: what the call asks and gives, and what is owed at the end.
 use mathlib.Core.Path.{_≡_, refl, ap}
 use Prim.Native.Nat.{ℕ}
 use mathlib.Core.List.{[], _∷_, List}
@@ -50,7 +50,7 @@ use Rattle.controller.proofs.step.Symbol.{name as #by-value}
 use Rattle.controller.proofs.step.Met as by-value-thm
 use Rattle.bench.specs.Lent.{answerOf}
 use Rattle.bench.proofs.Single.{of-struct}
-use Rattle.bench.proofs.Thin as thin
+use Rattle.bench.proofs.StepWalk as stepping
 use Rattle.bench.proofs.Told.{said-only, told}
 use Rattle.bench.proofs.step.Key.{name as #step}
 use Rattle.bench.proofs.step as step
@@ -115,7 +115,7 @@ module _ {M : Type 1} (𝓤 : URA M) (H : Heap 𝓤) (A : Atoms 𝓤) (W : Given
   module _ (C : Calls 𝓤 H) (Λ : Loops 𝓤 H) (fm : FmC 𝓤 H (W .laws) C) (known : Triple 𝓤 (C #by-value) (StepC 𝓤 H A at-mem run)) where
     walk : ent 𝓤 (onEntry 𝓤 H A step.signature (κ, tt) (q, tt) x at) (WpFn 𝓤 H C Λ code.function (vptr b o ∷ v ∷ []) Post)
     walk =
-        thin.walk 𝓤 H A W (of-struct T.the-type T′.the-laws T′.the-plain)
+        stepping.walk 𝓤 H A W (of-struct T.the-type T′.the-laws T′.the-plain)
         {νS = S.the-type .name} {SD = Stepped} {next = λ r. r .controller} {code = λ r. r .code} {lines = λ r. r .lines} {word = λ r. r .word} (of-struct S.the-type S′.the-laws S′.the-plain)
         St′.mir An′.mir #by-value κ q (emp 𝓤) b o γ h v (owns (St.the-row ∷ []) (e, tt) (v ∷ [], tt)) (stepOf h e) Post
         C Λ fm (StepC 𝓤 H A at-mem run .post to-step) (EL.lawful St.the-type St′.the-laws 𝓤 H A W tt .typed e _ e-is .0) (λ is. via 𝓤 _ (asks is) (known to-step)) gives of-controller

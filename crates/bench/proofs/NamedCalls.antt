@@ -1,4 +1,4 @@
--- The named calls: a function that lends its controller on to `step` with a step that its own parameters make meets the contract of that step. What doesn't depend on the function's code, for any list of plain parameters; the walks are those of `Passing`.
+-- The named calls: a function that lends its controller on to `step` with a step that its own parameters make meets the contract of that step. What doesn't depend on the function's code, for any list of plain parameters; the walks are those of `CallWalks`.
 use mathlib.Core.Path.{_≡_}
 use Prim.Native.Nat.{ℕ, _^_}
 use mathlib.Core.List.{[], _∷_, List}
@@ -41,7 +41,7 @@ use Rattle.model.proofs.Controller.Laws as T′
 use Rattle.model.proofs.Step as St
 use Rattle.model.proofs.Step.Laws as St′
 use Rattle.bench.specs.Lent.{Taken}
-use Rattle.bench.proofs.Passing.{Typed, function₀, function₁, function₂, walk₀, walk₁, walk₂}
+use Rattle.bench.proofs.CallWalks.{Typed, function₀, function₁, function₂, walk₀, walk₁, walk₂}
 use Rattle.bench.proofs.Single.{Single, row, of-struct}
 use Rattle.bench.proofs.step as step
 use Rattle.bench.proofs.step.Symbol.{name as #step}
@@ -144,7 +144,7 @@ module _ {M : Type 1} (𝓤 : URA M) (H : Heap 𝓤) (A : Atoms 𝓤) (W : Given
   module _ (e : Step) (made : Is St.the-row e (vstruct (vcons (vint w8 tag) vnil) ∷ [])) where
     pub met₀ : Meets 𝓤 H A (ended [] (λ _ _. e) (λ _ _. tt) .signature) (WpFn 𝓤 H (𝓣 .C) (𝓣 .Λ) (function₀ #step An′.mir St′.mir T′.mir ρ tag)) (closing 𝓤 H A (ended [] (λ _ _. e) (λ _ _. tt)) (clauses [] (λ _ _. e) (λ _ _. tt) 𝓤))
     met₀ = met [] (λ _ _. e) (λ _ _. tt) 𝓤 H A W at-mem run 𝓣 known (function₀ #step An′.mir St′.mir T′.mir ρ tag) (λ _. tt) (λ _ _. vstruct (vcons (vint w8 tag) vnil)) (λ _. tt) tt (λ _ _ _. made)
-        (λ κs a are b o I Q B P gv ex′ mt. walk₀ 𝓤 H A W (of-struct An.the-type An′.the-laws An′.the-plain) #step St′.mir T′.mir ρ tag small b o (𝓣 .C) (𝓣 .Λ) (fmOf 𝓤 H (W .laws) 𝓣) I Q B P gv ex′ (typed e _ made) mt)
+        (λ κs a are b o I Q B P given ends called. walk₀ 𝓤 H A W (of-struct An.the-type An′.the-laws An′.the-plain) #step St′.mir T′.mir ρ tag small b o (𝓣 .C) (𝓣 .Λ) (fmOf 𝓤 H (W .laws) 𝓣) I Q B P given ends (typed e _ made) called)
 
   module _ {τ : Ty} {D : Type 0} {val : D → Val} (S : Single τ D val) (quiet : (x : D) (f : Last (S .exit yes) x) → left (S .exit yes) x f ≡ ftrue) (still : (x : D) → Last (S .exit yes) x) where
     abbrev slot : Slot 1
@@ -160,8 +160,8 @@ module _ {M : Type 1} (𝓤 : URA M) (H : Heap 𝓤) (A : Atoms 𝓤) (W : Given
       pub met₁ : Meets 𝓤 H A (ended (slot ∷ []) E₁ S₁ .signature) (WpFn 𝓤 H (𝓣 .C) (𝓣 .Λ) (function₁ #step An′.mir St′.mir T′.mir ρ tag τ)) (closing 𝓤 H A (ended (slot ∷ []) E₁ S₁) (clauses (slot ∷ []) E₁ S₁ 𝓤))
       met₁ = met (slot ∷ []) E₁ S₁ 𝓤 H A W at-mem run 𝓣 known (function₁ #step An′.mir St′.mir T′.mir ρ tag τ) (λ _. ((λ x. val x ∷ []), tt)) (λ _ a. vstruct (vcons (vint w8 tag) (vcons (val (a .0)) vnil))) (λ _. (S .tells, tt))
           (goes-dropped 𝓤 H A W 1 slot yes (λ _. quiet), tt) (λ _ a are. made (a .0) (are .0))
-          (λ κs a are b o I Q B P gv ex′ mt. walk₁ 𝓤 H A W (of-struct An.the-type An′.the-laws An′.the-plain) #step St′.mir T′.mir ρ tag small b o (𝓣 .C) (𝓣 .Λ) (fmOf 𝓤 H (W .laws) 𝓣) I Q B P gv ex′
-          τ (val (a .0)) (S .typed 𝓤 H A W (a .0) _ (are .0)) (typed (e (a .0)) _ (made (a .0) (are .0))) mt)
+          (λ κs a are b o I Q B P given ends called. walk₁ 𝓤 H A W (of-struct An.the-type An′.the-laws An′.the-plain) #step St′.mir T′.mir ρ tag small b o (𝓣 .C) (𝓣 .Λ) (fmOf 𝓤 H (W .laws) 𝓣) I Q B P given ends
+          τ (val (a .0)) (S .typed 𝓤 H A W (a .0) _ (are .0)) (typed (e (a .0)) _ (made (a .0) (are .0))) called)
 
     module _ {τ₁ : Ty} {D₁ : Type 0} {val₁ : D₁ → Val} (S′ : Single τ₁ D₁ val₁) (quiet₁ : (x : D₁) (f : Last (S′ .exit yes) x) → left (S′ .exit yes) x f ≡ ftrue) (still₁ : (x : D₁) → Last (S′ .exit yes) x)
         (e : D → D₁ → Step) (made : (x : D) (y : D₁) → Is (row S) x (val x ∷ []) → Is (row S′) y (val₁ y ∷ []) → Is St.the-row (e x y) (vstruct (vcons (vint w8 tag) (vcons (val x) (vcons (val₁ y) vnil))) ∷ [])) where
@@ -177,5 +177,5 @@ module _ {M : Type 1} (𝓤 : URA M) (H : Heap 𝓤) (A : Atoms 𝓤) (W : Given
       pub met₂ : Meets 𝓤 H A (ended both E₂ S₂ .signature) (WpFn 𝓤 H (𝓣 .C) (𝓣 .Λ) (function₂ #step An′.mir St′.mir T′.mir ρ tag τ τ₁)) (closing 𝓤 H A (ended both E₂ S₂) (clauses both E₂ S₂ 𝓤))
       met₂ = met both E₂ S₂ 𝓤 H A W at-mem run 𝓣 known (function₂ #step An′.mir St′.mir T′.mir ρ tag τ τ₁) (λ _. ((λ x. val x ∷ []), ((λ x. val₁ x ∷ []), tt))) (λ _ a. vstruct (vcons (vint w8 tag) (vcons (val (a .0)) (vcons (val₁ (a .1 .0)) vnil)))) (λ _. (S .tells, (S′ .tells, tt)))
           (goes-dropped 𝓤 H A W 1 slot yes (λ _. quiet), (goes-dropped 𝓤 H A W 1 (plain (λ _. row S′)) yes (λ _. quiet₁), tt)) (λ _ a are. made (a .0) (a .1 .0) (are .0) (are .1 .0))
-          (λ κs a are b o I Q B P gv ex′ mt. walk₂ 𝓤 H A W (of-struct An.the-type An′.the-laws An′.the-plain) #step St′.mir T′.mir ρ tag small b o (𝓣 .C) (𝓣 .Λ) (fmOf 𝓤 H (W .laws) 𝓣) I Q B P gv ex′
-          τ τ₁ (val (a .0)) (val₁ (a .1 .0)) (S .typed 𝓤 H A W (a .0) _ (are .0)) (S′ .typed 𝓤 H A W (a .1 .0) _ (are .1 .0)) (typed (e (a .0) (a .1 .0)) _ (made (a .0) (a .1 .0) (are .0) (are .1 .0))) mt)
+          (λ κs a are b o I Q B P given ends called. walk₂ 𝓤 H A W (of-struct An.the-type An′.the-laws An′.the-plain) #step St′.mir T′.mir ρ tag small b o (𝓣 .C) (𝓣 .Λ) (fmOf 𝓤 H (W .laws) 𝓣) I Q B P given ends
+          τ τ₁ (val (a .0)) (val₁ (a .1 .0)) (S .typed 𝓤 H A W (a .0) _ (are .0)) (S′ .typed 𝓤 H A W (a .1 .0) _ (are .1 .0)) (typed (e (a .0) (a .1 .0)) _ (made (a .0) (a .1 .0) (are .0) (are .1 .0))) called)

@@ -1,4 +1,4 @@
--- The walk of `replay_record`: as `Thin.walk`, with a script that is passed on, a place in it, a reply space that is lent on for good, and a place in it. The types are variables: what the walk says holds of any.
+-- The walk of `replay_record`: as `StepWalk.walk`, with a script that is passed on, a place in it, a reply space that is lent on for good, and a place in it. The types are variables: what the walk says holds of any.
 use mathlib.Core.Path.{refl, ap}
 use Prim.Native.Nat.{ℕ, _<_, _^_}
 use mathlib.Core.Bool.{Bool}
