@@ -47,7 +47,7 @@ goes-on : (e : Bool) (k : ℕ) → stops e k ≡ false → (e || eqb k 9) ≡ fa
 goes-on true k h = h
 goes-on false k h = ne-eqb k 9 (λ q. true≢false (rw q at h))
 
-answered-bytes : (r : Replayed) → stops (r .ended) (r .code) ≡ false → length (replyOf r) ≡ 9
+pub answered-bytes : (r : Replayed) → stops (r .ended) (r .code) ≡ false → length (replyOf r) ≡ 9
 answered-bytes r h = reply-bytes r ∙ rw (goes-on (r .ended) (r .code) h)
 
 -- a reply fits the space that is left for it

@@ -189,14 +189,14 @@ pub fn replayed(z: Controller, script: &[u8], place: usize, reply: &mut [u8]) ->
 // ---- a whole script
 
 // A replay stops at the end and where a record can't be read or answered.
-fn stops(ended: bool, code: u8) -> bool
+pub fn stops(ended: bool, code: u8) -> bool
     ensures { λ r. ⌜ r ≡ scripts.stops ended code ⌝ }
 {
     ended | ((6 <= code) & (code <= 9))
 }
 
 // How many bytes a record's reply has: none at the end and for code 9.
-fn reply_length(ended: bool, code: u8) -> usize
+pub fn reply_length(ended: bool, code: u8) -> usize
     ensures { λ r. ⌜ r ≡ base.pick (ended || eqb code 9) 0 9 ⌝ }
 {
     if ended | (code == 9) {

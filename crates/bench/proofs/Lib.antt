@@ -1,0 +1,11 @@
+pub mod Again
+pub mod CallWalks
+pub mod Lies
+pub mod LoopWalk
+pub mod NamedCalls
+pub mod Placed
+pub mod RecordWalk
+pub mod Single
+pub mod StepWalk
+pub mod Told
+pub mod Turns
