@@ -1,6 +1,6 @@
 // Hex text: a byte is two hex digits; between bytes stand blanks, line ends, and comments from '#' to the line's end.
 ghost use mathlib.Core.Path.{_≡_};
-ghost use Prim.Native.Nat.{_+_, _<_};
+ghost use Prim.Native.Nat.{_+_, _<_, _≤_};
 ghost use lib.ListN.{length};
 ghost use Rattle.model.specs.Script as scripts;
 ghost use Rattle.hex.specs.Text as hex;
@@ -225,6 +225,7 @@ fn put(text: &mut [u8], n: usize, g: Given) -> usize
 // A piece of text, or all of it. Its bytes are written over its start; the rest of the piece is as it was.
 pub fn unhexed(r: Reader, text: &mut [u8]) -> Piece
     ensures { λ x. ⌜ x ≡ hex.pieceOf (hex.unhexed r (now (text .entry))) ⌝ }
+    ensures { λ x. ⌜ x .count ≤ length (now (text .exit)) ⌝ }
     ensures { λ x. ⌜ now (text .exit) ≡ scripts.overwritten (hex.unhexed r (now (text .entry)) .bytes) (now (text .entry)) ⌝ }
 {
     let mut reader = r;

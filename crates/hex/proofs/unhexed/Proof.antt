@@ -50,7 +50,7 @@ returns c =
     let l = c .before .loop in
     let h : length (a .text .now) ≤ l .i = omega (arith, l .inv .same) in (
       piece (a .r) (a .text .now) (l .text) (l .reader) (l .count) (l .i) (l .inv) h,
-      left (a .r) (a .text .now) (l .text) (l .reader) (l .count) (l .i) (l .inv) h,
+      (omega (arith, l .inv .behind, l .inv .inside, l .inv .same), left (a .r) (a .text .now) (l .text) (l .reader) (l .count) (l .i) (l .inv) h),
     )
 
 pub unhexed-spec : {M : Type 1} → statement M
