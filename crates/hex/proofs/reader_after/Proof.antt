@@ -1,57 +1,42 @@
+-- One return for each place.
 use Rattle.hex.specs.Text as hex
 use borrow.Author.Needs.{needs}
 use Rattle.hex.proofs.reader_after.Statement.{statement}
 use Rattle.hex.proofs.reader_after.Tie as tie
-use Rattle.hex.proofs.reader_after.Reads as reads
-use Rattle.hex.proofs.reader_after.Lts as lts
-use Rattle.hex.proofs.after_byte.Reads as after-byte-reads
-use Rattle.hex.proofs.after_digit.Reads as after-digit-reads
-use Rattle.hex.proofs.in_comment.Reads as in-comment-reads
 
--- src/lib.rt:145:27
 enum-told : tie.Need-enum-told
 enum-told c = search needs
 
--- src/lib.rt:145:27
 after-byte-requires : tie.Need-after-byte-requires
 after-byte-requires c κs = search needs
 
--- src/lib.rt:146:29
 enum-told-2 : tie.Need-enum-told-2
 enum-told-2 c = search needs
 
--- src/lib.rt:146:29
 after-digit-requires : tie.Need-after-digit-requires
 after-digit-requires c κs = search needs
 
--- src/lib.rt:147:27
 enum-told-3 : tie.Need-enum-told-3
 enum-told-3 c = search needs
 
--- src/lib.rt:147:27
 in-comment-requires : tie.Need-in-comment-requires
 in-comment-requires c κs = search needs
 
--- src/lib.rt:148:30
 enum-told-4 : tie.Need-enum-told-4
 enum-told-4 c = search needs
 
--- src/lib.rt:140:1
 returns : tie.Need-returns
 unfolding hex.readerAfter
 returns c = simp (c .after-byte .ensures, c .before .enum-told .given .1)
 
--- src/lib.rt:140:1
 returns-2 : tie.Need-returns-2
 unfolding hex.readerAfter
 returns-2 c = simp (c .after-digit .ensures, c .before .enum-told2 .given .1)
 
--- src/lib.rt:140:1
 returns-3 : tie.Need-returns-3
 unfolding hex.readerAfter
 returns-3 c = simp (c .in-comment .ensures, c .before .enum-told3 .given .1)
 
--- src/lib.rt:140:1
 returns-4 : tie.Need-returns-4
 unfolding hex.readerAfter
 returns-4 c = simp (c .enum-told4 .given .1)

@@ -1,59 +1,46 @@
+-- One return for each kind of character.
 use Rattle.hex.specs.Text as hex
 use borrow.Author.Needs.{needs}
 use Rattle.hex.proofs.second_digit.Statement.{statement}
 use Rattle.hex.proofs.second_digit.Tie as tie
-use Rattle.hex.proofs.second_digit.Reads as reads
-use Rattle.hex.proofs.second_digit.Lts as lts
 
--- src/lib.rt:156:21
 enum-known-k : tie.Need-enum-known-k
 enum-known-k c = search needs
 
--- src/lib.rt:156:39
 mul-t6 : tie.Need-mul-t6
 mul-t6 c = search needs
 
--- src/lib.rt:156:39
 add-t8 : tie.Need-add-t8
 add-t8 c = search needs
 
--- src/lib.rt:157:24
 enum-told : tie.Need-enum-told
 enum-told c = search needs
 
--- src/lib.rt:158:26
 enum-told-2 : tie.Need-enum-told-2
 enum-told-2 c = search needs
 
--- src/lib.rt:159:23
 enum-told-3 : tie.Need-enum-told-3
 enum-told-3 c = search needs
 
--- src/lib.rt:160:24
 enum-told-4 : tie.Need-enum-told-4
 enum-told-4 c = search needs
 
--- src/lib.rt:152:1
 returns : tie.Need-returns
 unfolding hex.secondDigit
 returns c = simp (c .before .k .given .1)
 
--- src/lib.rt:152:1
 returns-2 : tie.Need-returns-2
 unfolding hex.secondDigit
 returns-2 c = simp (c .enum-told .given .1)
 
--- src/lib.rt:152:1
 returns-3 : tie.Need-returns-3
 unfolding hex.secondDigit
 returns-3 c = simp (c .enum-told2 .given .1)
 
--- src/lib.rt:152:1
 returns-4 : tie.Need-returns-4
 unfolding hex.secondDigit
 returns-4 c = simp (c .enum-told3 .given .1)
 
--- src/lib.rt:152:1
 returns-5 : tie.Need-returns-5
 unfolding hex.secondDigit
 returns-5 c = simp (c .enum-told4 .given .1)
