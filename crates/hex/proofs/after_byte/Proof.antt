@@ -1,0 +1,75 @@
+-- One return for each kind of character.
+use Rattle.hex.specs.Text as hex
+use borrow.Author.Needs.{needs}
+use Rattle.hex.proofs.after_byte.Statement.{statement}
+use Rattle.hex.proofs.after_byte.Tie as tie
+
+enum-known-k : tie.Need-enum-known-k
+enum-known-k c = search needs
+
+at-requires : tie.Need-at-requires
+at-requires c κs = search needs
+
+enum-told : tie.Need-enum-told
+enum-told c = search needs
+
+along-requires : tie.Need-along-requires
+along-requires c κs = search needs
+
+enum-told-2 : tie.Need-enum-told-2
+enum-told-2 c = search needs
+
+next-line-requires : tie.Need-next-line-requires
+next-line-requires c κs = search needs
+
+enum-told-3 : tie.Need-enum-told-3
+enum-told-3 c = search needs
+
+along-requires-2 : tie.Need-along-requires-2
+along-requires-2 c κs = search needs
+
+enum-told-4 : tie.Need-enum-told-4
+enum-told-4 c = search needs
+
+at-requires-2 : tie.Need-at-requires-2
+at-requires-2 c κs = search needs
+
+returns : tie.Need-returns
+unfolding hex.afterByte
+returns c = simp (c .at .ensures, c .before .before .k .given .1)
+
+returns-2 : tie.Need-returns-2
+unfolding hex.afterByte
+returns-2 c = simp (c .along .ensures, c .before .enum-told .given .1)
+
+returns-3 : tie.Need-returns-3
+unfolding hex.afterByte
+returns-3 c = simp (c .next-line .ensures, c .before .enum-told2 .given .1)
+
+returns-4 : tie.Need-returns-4
+unfolding hex.afterByte
+returns-4 c = simp (c .along2 .ensures, c .before .enum-told3 .given .1)
+
+returns-5 : tie.Need-returns-5
+unfolding hex.afterByte
+returns-5 c = simp (c .at2 .ensures, c .before .enum-told4 .given .1)
+
+pub after-byte-spec : {M : Type 1} → statement M
+after-byte-spec =
+    tie.close
+    (tie.spec
+    enum-known-k
+    at-requires
+    enum-told
+    along-requires
+    enum-told-2
+    next-line-requires
+    enum-told-3
+    along-requires-2
+    enum-told-4
+    at-requires-2
+    returns
+    returns-2
+    returns-3
+    returns-4
+    returns-5)
