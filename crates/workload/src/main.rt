@@ -1,5 +1,5 @@
-// A workload for measuring: after set-up, a hundred thousand received frames and nothing else. `step` is called at one
-// place, as a replay does.
+// A workload for measuring: after set-up, a hundred thousand received frames and nothing else; or, with any argument, as many
+// accepted register accesses. `step` is called at one place, as a replay does.
 use libc::STDOUT_FILENO;
 use model::Frame;
 use model::Step;
@@ -39,7 +39,25 @@ fn frame(i: u32) -> Frame {
     }
 }
 
-fn next(i: u32) -> Step {
+// In turn: TSR, MSR, ESR and RF0R read, IER and a bank's word written, the word read, MSR written.
+fn access(i: u32) -> Step {
+    let k = i % 8;
+    match k {
+        0 => Step::Read(0x008),
+        1 => Step::Read(0x004),
+        2 => Step::Read(0x018),
+        3 => Step::Read(0x00C),
+        4 => Step::Write(0x014, i),
+        5 => Step::Write(0x250, i),
+        6 => Step::Read(0x250),
+        _ => Step::Write(0x004, 0x1C),
+    }
+}
+
+fn next(registers: bool, i: u32) -> Step {
+    if registers {
+        return access(i);
+    }
     if i < 19 {
         return set_up(i);
     }
@@ -47,17 +65,22 @@ fn next(i: u32) -> Step {
 }
 
 fn main() {
+    let registers = 1 < os::arg_count();
     let mut z = controller::reset();
-    let mut sum: u32 = 0;
+    let mut words: u32 = 0;
+    let mut refused: u32 = 0;
     for i in 0..100019 {
-        let a = controller::step(z, next(i));
+        let a = controller::step(z, next(registers, i));
         z = a.controller;
-        sum = std::num::wrapping_add_u32(sum, a.code as u32);
+        words = std::num::wrapping_add_u32(words, a.word);
+        refused = std::num::wrapping_add_u32(refused, a.code as u32);
     }
     let c = z.core;
     let q = c.fifo0;
     let x = q.third;
-    io::print_decimal(STDOUT_FILENO, sum as u64);
+    io::print_decimal(STDOUT_FILENO, refused as u64);
+    io::write_all(STDOUT_FILENO, b" ");
+    io::print_decimal(STDOUT_FILENO, words as u64);
     io::write_all(STDOUT_FILENO, b" ");
     io::print_hex(STDOUT_FILENO, x.rdl as u64, 8);
     io::write_all(STDOUT_FILENO, b"\n");
