@@ -1,17 +1,20 @@
 -- A refused step goes through the same code as an accepted one, and changes nothing.
 use mathlib.Core.Bool.{Bool, true, false, _&&_}
 use mathlib.Core.List.{List}
-use mathlib.Core.Path.{_≡_, refl}
+use mathlib.Core.Path.{_≡_, refl, ap, _∙_}
 use Prim.Native.Nat.{ℕ}
 use lib.Dec.{eqb}
 use Rattle.model.specs.Base.{pick}
 use Rattle.model.specs.Control.{boff}
 use Rattle.model.specs.Control as control
-use Rattle.model.specs.Registers.{isFree}
+use Rattle.model.specs.Registers.{registerAt, isFree}
 use Rattle.model.specs.Step.{applied, settled}
 use Rattle.model.specs.declared.Core.{Core}
 use Rattle.model.specs.declared.Control.{Control}
+use Rattle.model.specs.declared.Register.{Register}
 use Rattle.model.specs.declared.Step.{Step}
+use Rattle.model.specs.declared.Step.the-variants.{Write}
+use Rattle.registers.specs.Accesses.{offsetOf}
 
 -- the state after a step with code k, before the mode rule
 unfoldable pub accepted : Core → List ℕ → Step → ℕ → Core
@@ -27,3 +30,7 @@ pub after : (ok : Bool) (x c : Core)
 unfolding settled control.settled
 after true x c = refl
 after false x c = refl
+
+-- the register of a step that writes
+pub of-write : (x : Register) (e : Step) (o w : ℕ) → x ≡ registerAt (offsetOf e) → e ≡ Write o w → x ≡ registerAt o
+of-write x e o w p q = p ∙ ap (λ (s : Step). registerAt (offsetOf s)) q

@@ -6,6 +6,7 @@ ghost use Rattle.model.specs.Base as base;
 ghost use Rattle.model.specs.Reception as reception;
 ghost use Rattle.model.specs.Registers as map;
 ghost use Rattle.model.specs.Step as stepping;
+ghost use Rattle.registers.specs.Accesses as accesses;
 ghost use Rattle.controller.specs.After as after;
 use model::Acceptance;
 use model::Bank;
@@ -109,7 +110,8 @@ fn looped_frame(x: MailboxState, a: Acceptance) -> StoredFrame
 
 // One function for all: each arm stores the parts that it changes and gives the state. Two functions that take and
 // give the core would copy it in every step.
-fn accepted(c: Core, banks: &[u32; 28], e: Step, code: u8) -> Core
+fn accepted(c: Core, banks: &[u32; 28], e: Step, x: Register, code: u8) -> Core
+    requires { ⌜ x ≡ map.registerAt (accesses.offsetOf e) ⌝ }
     ensures { λ r. ⌜ r ≡ after.accepted c (now (banks .entry)) e code ⌝ }
 {
     let mut d = c;
@@ -125,8 +127,7 @@ fn accepted(c: Core, banks: &[u32; 28], e: Step, code: u8) -> Core
         match e {
             Step::Reset => core_reset(),
             Step::Read(_) => d,
-            Step::Write(o, w) => {
-                let x = registers::register_at(o);
+            Step::Write(_, w) => {
                 match x {
                     Register::Mcr => {
                         if bits::bit(15, w) {
@@ -302,10 +303,11 @@ fn settled_if(ok: bool, c: Core) -> Control
     control::settled(k, ok & refusals::is_free(c), control::boff(n))
 }
 
-fn core_after(c: Core, banks: &[u32; 28], e: Step, code: u8) -> Core
+fn core_after(c: Core, banks: &[u32; 28], e: Step, x: Register, code: u8) -> Core
+    requires { ⌜ x ≡ map.registerAt (accesses.offsetOf e) ⌝ }
     ensures { λ r. ⌜ r ≡ stepping.coreAfter c (now (banks .entry)) e code ⌝ }
 {
-    let mut d = accepted(c, banks, e, code);
+    let mut d = accepted(c, banks, e, x, code);
     let k = settled_if(code == 0, d);
     d.control = k;
     d
@@ -321,9 +323,10 @@ fn with_bank_word(banks: [u32; 28], b: Bank, i: u32, w: u32) -> [u32; 28]
     if n < 14 {
         let j = (2 * n + i) as usize;
         v[j] = w;
-        return v;
+        v
+    } else {
+        v
     }
-    v
 }
 
 fn banks_written(x: Register, banks: [u32; 28], w: u32) -> [u32; 28]
@@ -356,23 +359,25 @@ fn banks_written(x: Register, banks: [u32; 28], w: u32) -> [u32; 28]
     }
 }
 
-fn banks_after(banks: [u32; 28], e: Step, code: u8) -> [u32; 28]
+fn banks_after(banks: [u32; 28], e: Step, x: Register, code: u8) -> [u32; 28]
+    requires { ⌜ x ≡ map.registerAt (accesses.offsetOf e) ⌝ }
     ensures { λ r. ⌜ r ≡ stepping.banksAfter banks e code ⌝ }
 {
     if code != 0 {
-        return banks;
-    }
-    match e {
-        Step::Reset => [0; 28],
-        Step::Read(_) => banks,
-        Step::Write(o, w) => banks_written(registers::register_at(o), banks, w),
-        Step::Idle => banks,
-        Step::BitTimes(_) => banks,
-        Step::Activity => banks,
-        Step::Start => banks,
-        Step::Outcome(_) => banks,
-        Step::Receive(_) => banks,
-        Step::ReceiveError(_, _) => banks,
+        banks
+    } else {
+        match e {
+            Step::Reset => [0; 28],
+            Step::Read(_) => banks,
+            Step::Write(_, w) => banks_written(x, banks, w),
+            Step::Idle => banks,
+            Step::BitTimes(_) => banks,
+            Step::Activity => banks,
+            Step::Start => banks,
+            Step::Outcome(_) => banks,
+            Step::Receive(_) => banks,
+            Step::ReceiveError(_, _) => banks,
+        }
     }
 }
 
@@ -382,10 +387,11 @@ pub fn step(z: Controller, e: Step) -> Stepped
 {
     let c = z.core;
     let banks = z.banks;
-    let code = refusals::refusal(c, e);
-    let word = reads::word_of(c, &banks, e, code);
-    let d = core_after(c, &banks, e, code);
-    let v = banks_after(banks, e, code);
+    let x = registers::register_of(e);
+    let code = refusals::refusal_at(c, e, x);
+    let word = reads::word_at(c, &banks, e, x, code);
+    let d = core_after(c, &banks, e, x, code);
+    let v = banks_after(banks, e, x, code);
     let lines = reads::lines_of(d);
     Stepped {
         controller: Controller { core: d, banks: v },

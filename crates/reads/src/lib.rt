@@ -6,6 +6,7 @@ ghost use Rattle.model.specs.Base as base;
 ghost use Rattle.model.specs.Reception as reception;
 ghost use Rattle.model.specs.Registers as map;
 ghost use Rattle.model.specs.Step as stepping;
+ghost use Rattle.reads.specs.Decoded as decoded;
 use model::Bank;
 use model::Core;
 use model::Fifo;
@@ -110,16 +111,16 @@ fn read_word(g: Register, c: Core, banks: &[u32; 28]) -> u32
     }
 }
 
-// The word of a step with this code: 0 but for an accepted read and an accepted start.
-pub fn word_of(c: Core, banks: &[u32; 28], e: Step, code: u8) -> u32
-    ensures { λ r. ⌜ r ≡ base.pick (eqb code 0) (stepping.wordOf c (now (banks .entry)) e) 0 ⌝ }
+// The word of a step with this code: 0 but for an accepted read and an accepted start. g is the register that it reads.
+pub fn word_at(c: Core, banks: &[u32; 28], e: Step, g: Register, code: u8) -> u32
+    ensures { λ r. ⌜ r ≡ base.pick (eqb code 0) (decoded.wordAt c (now (banks .entry)) e g) 0 ⌝ }
 {
     if code != 0 {
         return 0;
     }
     match e {
         Step::Reset => 0,
-        Step::Read(o) => read_word(registers::register_at(o), c, banks),
+        Step::Read(_) => read_word(g, c, banks),
         Step::Write(_, _) => 0,
         Step::Idle => 0,
         Step::BitTimes(_) => 0,
@@ -136,6 +137,12 @@ pub fn word_of(c: Core, banks: &[u32; 28], e: Step, code: u8) -> u32
         Step::Receive(_) => 0,
         Step::ReceiveError(_, _) => 0,
     }
+}
+
+pub fn word_of(c: Core, banks: &[u32; 28], e: Step, code: u8) -> u32
+    ensures { λ r. ⌜ r ≡ base.pick (eqb code 0) (stepping.wordOf c (now (banks .entry)) e) 0 ⌝ }
+{
+    word_at(c, banks, e, registers::register_of(e), code)
 }
 
 fn any_rqcp(t: Transmit) -> bool

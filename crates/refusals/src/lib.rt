@@ -2,6 +2,7 @@
 ghost use mathlib.Core.Path.{_≡_};
 ghost use Rattle.model.specs.Registers as map;
 ghost use Rattle.model.specs.Step as stepping;
+ghost use Rattle.refusals.specs.Decoded as decoded;
 use model::Core;
 use model::Mailbox;
 use model::Register;
@@ -97,13 +98,14 @@ fn write_refusal(g: Register, c: Core) -> u8
     }
 }
 
-pub fn refusal(c: Core, e: Step) -> u8
-    ensures { λ r. ⌜ r ≡ stepping.refusal c e ⌝ }
+// The code of a step; g is the register that it reads or writes.
+pub fn refusal_at(c: Core, e: Step, g: Register) -> u8
+    ensures { λ r. ⌜ r ≡ decoded.refusalAt c e g ⌝ }
 {
     match e {
         Step::Reset => 0,
-        Step::Read(o) => bits::pick_u8(registers::is_absent(registers::register_at(o)), 1, 0),
-        Step::Write(o, _) => write_refusal(registers::register_at(o), c),
+        Step::Read(_) => bits::pick_u8(registers::is_absent(g), 1, 0),
+        Step::Write(_, _) => write_refusal(g, c),
         Step::Idle => bits::pick_u8(is_free(c), 0, 4),
         Step::BitTimes(n) => bits::pick_u8((1 <= n) & (n <= 65535), 0, 5),
         Step::Activity => {
@@ -131,4 +133,10 @@ pub fn refusal(c: Core, e: Step) -> u8
             5
         }
     }
+}
+
+pub fn refusal(c: Core, e: Step) -> u8
+    ensures { λ r. ⌜ r ≡ stepping.refusal c e ⌝ }
+{
+    refusal_at(c, e, registers::register_of(e))
 }

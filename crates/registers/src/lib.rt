@@ -1,10 +1,12 @@
 // The register map: which register an offset names.
 ghost use mathlib.Core.Path.{_≡_};
 ghost use Rattle.model.specs.Registers as registers;
+ghost use Rattle.registers.specs.Accesses as accesses;
 use model::Bank;
 use model::Fifo;
 use model::Mailbox;
 use model::Register;
+use model::Step;
 
 fn control_register(o: u16) -> Register
     ensures { λ r. ⌜ r ≡ registers.controlRegister o ⌝ }
@@ -101,6 +103,31 @@ pub fn register_at(o: u16) -> Register
         return block_register(o / 16, o % 16);
     }
     filter_register(o)
+}
+
+// The offset of a register access; any other step has 1, which names no register.
+fn offset_of(e: Step) -> u16
+    ensures { λ r. ⌜ r ≡ accesses.offsetOf e ⌝ }
+{
+    match e {
+        Step::Reset => 1,
+        Step::Read(o) => o,
+        Step::Write(o, _) => o,
+        Step::Idle => 1,
+        Step::BitTimes(_) => 1,
+        Step::Activity => 1,
+        Step::Start => 1,
+        Step::Outcome(_) => 1,
+        Step::Receive(_) => 1,
+        Step::ReceiveError(_, _) => 1,
+    }
+}
+
+// The register that a step reads or writes, Absent where it does neither.
+pub fn register_of(e: Step) -> Register
+    ensures { λ r. ⌜ r ≡ registers.registerAt (accesses.offsetOf e) ⌝ }
+{
+    register_at(offset_of(e))
 }
 
 pub fn is_absent(g: Register) -> bool

@@ -11,7 +11,6 @@ use model::Mailbox;
 use model::Mailboxes;
 use model::RequestOrder;
 use model::Sender;
-use model::Transmit;
 
 // A number that orders identifier words as the bits on the wire do: the top 11, then standard data, standard remote,
 // extended, then the low 18, then data before remote.
@@ -118,15 +117,6 @@ pub fn last(txfp: bool, i: Identifiers, o: RequestOrder) -> Sender
         return newest(o);
     }
     highest(i, o)
-}
-
-pub fn first_of(txfp: bool, t: Transmit) -> Sender
-    ensures { λ r. ⌜ r ≡ mailboxes.firstOf txfp t ⌝ }
-{
-    let b = t.mailboxes;
-    let q = t.queue;
-    let o = q.order;
-    first(txfp, identifiers(b), o)
 }
 
 // The one on the wire stands first, so it is not the last where another waits.

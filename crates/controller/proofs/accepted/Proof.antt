@@ -1,7 +1,7 @@
 use mathlib.Core.Path.{_≡_, sym, ap, _∙_}
 use Rattle.model.specs.declared.Sender.{Sender}
 use Rattle.model.specs.declared.Sender.the-variants.{From}
-use Rattle.controller.specs.After.{accepted}
+use Rattle.controller.specs.After.{accepted, of-write}
 use Rattle.model.specs.Step.{applied, startedBy, endedBy, storedBy}
 use Rattle.model.specs.Registers.{written, coreReset}
 use borrow.Author.Tests.{eq-eqb, ne-eqb}
@@ -34,7 +34,6 @@ use Rattle.receive.proofs.fmi_of.Reads as fmi-of-reads
 use Rattle.receive.proofs.received.Reads as received-reads
 use Rattle.receive.proofs.rfr_written.Reads as rfr-written-reads
 use Rattle.receive.proofs.stored_frame.Reads as stored-frame-reads
-use Rattle.registers.proofs.register_at.Reads as register-at-reads
 use Rattle.transmit.proofs.mailbox.at.Reads as at-reads
 use Rattle.transmit.proofs.mailbox.dropped.Reads as dropped-reads
 use Rattle.transmit.proofs.mailbox.requested_by.Reads as requested-by-reads
@@ -57,9 +56,6 @@ enum-told-2 c = search needs
 
 enum-known-e : tie.Need-enum-known-e
 enum-known-e c = search needs
-
-register-at-requires : tie.Need-register-at-requires
-register-at-requires c κs = search needs
 
 enum-told-3 : tie.Need-enum-told-3
 enum-told-3 c = search needs
@@ -321,103 +317,103 @@ returns-3 c = rw (eq-eqb _ _ (c .before .before .if1 .left), c .enum-told2 .give
 
 returns-4 : tie.Need-returns-4
 unfolding accepted applied written coreReset
-returns-4 c = rw (eq-eqb _ _ (c .before .before .before .before .before .before .before .before .before .before .before .before .if1 .left), c .before .before .before .before .before .before .before .before .before .before .e .given .1, ← (c .before .before .before .before .before .before .before .before .register-at .ensures), c .before .before .before .before .before .before .enum-told3 .given .1, ← (c .before .before .before .before .before .bit .ensures), c .before .before .before .before .if2 .taken, c .empty-fifo2 .ensures, c .before .empty-fifo .ensures, c .before .before .dropped .ensures, c .before .before .before .master-reset .ensures)
+returns-4 c = rw (eq-eqb _ _ (c .before .before .before .before .before .before .before .before .before .before .before .if1 .left), c .before .before .before .before .before .before .before .before .before .e .given .1, ← (of-write _ _ _ _ (c .before .before .before .before .before .before .before .before .before .before .before .before .before .before .before .before .before .before .pre) (c .before .before .before .before .before .before .before .before .before .e .given .1)), c .before .before .before .before .before .before .enum-told3 .given .1, ← (c .before .before .before .before .before .bit .ensures), c .before .before .before .before .if2 .taken, c .empty-fifo2 .ensures, c .before .empty-fifo .ensures, c .before .before .dropped .ensures, c .before .before .before .master-reset .ensures)
 
 returns-5 : tie.Need-returns-5
 unfolding accepted applied written
-returns-5 c = rw (eq-eqb _ _ (c .before .before .before .before .before .before .before .before .before .if1 .left), c .before .before .before .before .before .before .before .e .given .1, ← (c .before .before .before .before .before .register-at .ensures), c .before .before .before .enum-told3 .given .1, ← (c .before .before .bit .ensures), c .before .if2 .left, c .mcr-written .ensures)
+returns-5 c = rw (eq-eqb _ _ (c .before .before .before .before .before .before .before .before .if1 .left), c .before .before .before .before .before .before .e .given .1, ← (of-write _ _ _ _ (c .before .before .before .before .before .before .before .before .before .before .before .before .before .before .before .pre) (c .before .before .before .before .before .before .e .given .1)), c .before .before .before .enum-told3 .given .1, ← (c .before .before .bit .ensures), c .before .if2 .left, c .mcr-written .ensures)
 
 returns-6 : tie.Need-returns-6
 unfolding accepted applied written
-returns-6 c = rw (eq-eqb _ _ (c .before .before .before .before .before .before .before .if1 .left), c .before .before .before .before .before .e .given .1, ← (c .before .before .before .register-at .ensures), c .before .enum-told4 .given .1, c .msr-written .ensures)
+returns-6 c = rw (eq-eqb _ _ (c .before .before .before .before .before .before .if1 .left), c .before .before .before .before .e .given .1, ← (of-write _ _ _ _ (c .before .before .before .before .before .before .before .before .before .before .before .before .before .pre) (c .before .before .before .before .e .given .1)), c .before .enum-told4 .given .1, c .msr-written .ensures)
 
 returns-7 : tie.Need-returns-7
 unfolding accepted applied written
-returns-7 c = rw (eq-eqb _ _ (c .before .before .before .before .before .before .before .if1 .left), c .before .before .before .before .before .e .given .1, ← (c .before .before .before .register-at .ensures), c .before .enum-told5 .given .1, c .tsr-written .ensures)
+returns-7 c = rw (eq-eqb _ _ (c .before .before .before .before .before .before .if1 .left), c .before .before .before .before .e .given .1, ← (of-write _ _ _ _ (c .before .before .before .before .before .before .before .before .before .before .before .before .before .pre) (c .before .before .before .before .e .given .1)), c .before .enum-told5 .given .1, c .tsr-written .ensures)
 
 returns-8 : tie.Need-returns-8
 unfolding accepted applied written
-returns-8 c = rw (eq-eqb _ _ (c .before .before .before .before .before .before .before .before .before .before .if1 .left), c .before .before .before .before .before .before .before .before .e .given .1, ← (c .before .before .before .before .before .before .register-at .ensures), c .before .before .before .before .x .given .1, c .before .enum-told6 .given .1, c .rfr-written .ensures)
+returns-8 c = rw (eq-eqb _ _ (c .before .before .before .before .before .before .before .before .before .if1 .left), c .before .before .before .before .before .before .before .e .given .1, ← (of-write _ _ _ _ (c .before .before .before .before .before .before .before .before .before .before .before .before .before .before .before .before .pre) (c .before .before .before .before .before .before .before .e .given .1)), c .before .before .before .before .x .given .1, c .before .enum-told6 .given .1, c .rfr-written .ensures)
 
 returns-9 : tie.Need-returns-9
 unfolding accepted applied written
-returns-9 c = rw (eq-eqb _ _ (c .before .before .before .before .before .before .before .before .before .before .if1 .left), c .before .before .before .before .before .before .before .before .e .given .1, ← (c .before .before .before .before .before .before .register-at .ensures), c .before .before .before .before .x .given .1, c .before .enum-told7 .given .1, c .rfr-written2 .ensures)
+returns-9 c = rw (eq-eqb _ _ (c .before .before .before .before .before .before .before .before .before .if1 .left), c .before .before .before .before .before .before .before .e .given .1, ← (of-write _ _ _ _ (c .before .before .before .before .before .before .before .before .before .before .before .before .before .before .before .before .pre) (c .before .before .before .before .before .before .before .e .given .1)), c .before .before .before .before .x .given .1, c .before .enum-told7 .given .1, c .rfr-written2 .ensures)
 
 returns-10 : tie.Need-returns-10
 unfolding accepted applied written
-returns-10 c = rw (eq-eqb _ _ (c .before .before .before .before .before .before .before .if1 .left), c .before .before .before .before .before .e .given .1, ← (c .before .before .before .register-at .ensures), c .before .enum-told8 .given .1, c .ier-written .ensures)
+returns-10 c = rw (eq-eqb _ _ (c .before .before .before .before .before .before .if1 .left), c .before .before .before .before .e .given .1, ← (of-write _ _ _ _ (c .before .before .before .before .before .before .before .before .before .before .before .before .before .pre) (c .before .before .before .before .e .given .1)), c .before .enum-told8 .given .1, c .ier-written .ensures)
 
 returns-11 : tie.Need-returns-11
 unfolding accepted applied written
-returns-11 c = rw (eq-eqb _ _ (c .before .before .before .before .before .before .before .if1 .left), c .before .before .before .before .before .e .given .1, ← (c .before .before .before .register-at .ensures), c .before .enum-told9 .given .1, c .esr-written .ensures)
+returns-11 c = rw (eq-eqb _ _ (c .before .before .before .before .before .before .if1 .left), c .before .before .before .before .e .given .1, ← (of-write _ _ _ _ (c .before .before .before .before .before .before .before .before .before .before .before .before .before .pre) (c .before .before .before .before .e .given .1)), c .before .enum-told9 .given .1, c .esr-written .ensures)
 
 returns-12 : tie.Need-returns-12
 unfolding accepted applied written
-returns-12 c = rw (eq-eqb _ _ (c .before .before .before .before .before .before .before .if1 .left), c .before .before .before .before .before .e .given .1, ← (c .before .before .before .register-at .ensures), c .before .enum-told10 .given .1, c .btr-written .ensures)
+returns-12 c = rw (eq-eqb _ _ (c .before .before .before .before .before .before .if1 .left), c .before .before .before .before .e .given .1, ← (of-write _ _ _ _ (c .before .before .before .before .before .before .before .before .before .before .before .before .before .pre) (c .before .before .before .before .e .given .1)), c .before .enum-told10 .given .1, c .btr-written .ensures)
 
 returns-13 : tie.Need-returns-13
 unfolding accepted applied written
-returns-13 c = rw (eq-eqb _ _ (c .before .before .before .before .before .before .before .before .if1 .left), c .before .before .before .before .before .before .e .given .1, ← (c .before .before .before .before .register-at .ensures), c .before .before .x2 .given .1, c .requested-by .ensures)
+returns-13 c = rw (eq-eqb _ _ (c .before .before .before .before .before .before .before .if1 .left), c .before .before .before .before .before .e .given .1, ← (of-write _ _ _ _ (c .before .before .before .before .before .before .before .before .before .before .before .before .before .before .pre) (c .before .before .before .before .before .e .given .1)), c .before .before .x2 .given .1, c .requested-by .ensures)
 
 returns-14 : tie.Need-returns-14
 unfolding accepted applied written
-returns-14 c = rw (eq-eqb _ _ (c .before .before .before .before .before .before .before .before .if1 .left), c .before .before .before .before .before .before .e .given .1, ← (c .before .before .before .before .register-at .ensures), c .before .before .x3 .given .1, c .store-tdt .ensures)
+returns-14 c = rw (eq-eqb _ _ (c .before .before .before .before .before .before .before .if1 .left), c .before .before .before .before .before .e .given .1, ← (of-write _ _ _ _ (c .before .before .before .before .before .before .before .before .before .before .before .before .before .before .pre) (c .before .before .before .before .before .e .given .1)), c .before .before .x3 .given .1, c .store-tdt .ensures)
 
 returns-15 : tie.Need-returns-15
 unfolding accepted applied written
-returns-15 c = rw (eq-eqb _ _ (c .before .before .before .before .before .before .before .before .if1 .left), c .before .before .before .before .before .before .e .given .1, ← (c .before .before .before .before .register-at .ensures), c .before .before .x4 .given .1, c .store-tdl .ensures)
+returns-15 c = rw (eq-eqb _ _ (c .before .before .before .before .before .before .before .if1 .left), c .before .before .before .before .before .e .given .1, ← (of-write _ _ _ _ (c .before .before .before .before .before .before .before .before .before .before .before .before .before .before .pre) (c .before .before .before .before .before .e .given .1)), c .before .before .x4 .given .1, c .store-tdl .ensures)
 
 returns-16 : tie.Need-returns-16
 unfolding accepted applied written
-returns-16 c = rw (eq-eqb _ _ (c .before .before .before .before .before .before .before .before .if1 .left), c .before .before .before .before .before .before .e .given .1, ← (c .before .before .before .before .register-at .ensures), c .before .before .x5 .given .1, c .store-tdh .ensures)
+returns-16 c = rw (eq-eqb _ _ (c .before .before .before .before .before .before .before .if1 .left), c .before .before .before .before .before .e .given .1, ← (of-write _ _ _ _ (c .before .before .before .before .before .before .before .before .before .before .before .before .before .before .pre) (c .before .before .before .before .before .e .given .1)), c .before .before .x5 .given .1, c .store-tdh .ensures)
 
 returns-17 : tie.Need-returns-17
 unfolding accepted applied written
-returns-17 c = rw (eq-eqb _ _ (c .before .before .before .before .before .before .if1 .left), c .before .before .before .before .e .given .1, ← (c .before .before .register-at .ensures), c .enum-told11 .given .1)
+returns-17 c = rw (eq-eqb _ _ (c .before .before .before .before .before .if1 .left), c .before .before .before .e .given .1, ← (of-write _ _ _ _ (c .before .before .before .before .before .before .before .before .before .before .before .before .pre) (c .before .before .before .e .given .1)), c .enum-told11 .given .1)
 
 returns-18 : tie.Need-returns-18
 unfolding accepted applied written
-returns-18 c = rw (eq-eqb _ _ (c .before .before .before .before .before .before .if1 .left), c .before .before .before .before .e .given .1, ← (c .before .before .register-at .ensures), c .enum-told12 .given .1)
+returns-18 c = rw (eq-eqb _ _ (c .before .before .before .before .before .if1 .left), c .before .before .before .e .given .1, ← (of-write _ _ _ _ (c .before .before .before .before .before .before .before .before .before .before .before .before .pre) (c .before .before .before .e .given .1)), c .enum-told12 .given .1)
 
 returns-19 : tie.Need-returns-19
 unfolding accepted applied written
-returns-19 c = rw (eq-eqb _ _ (c .before .before .before .before .before .before .if1 .left), c .before .before .before .before .e .given .1, ← (c .before .before .register-at .ensures), c .enum-told13 .given .1)
+returns-19 c = rw (eq-eqb _ _ (c .before .before .before .before .before .if1 .left), c .before .before .before .e .given .1, ← (of-write _ _ _ _ (c .before .before .before .before .before .before .before .before .before .before .before .before .pre) (c .before .before .before .e .given .1)), c .enum-told13 .given .1)
 
 returns-20 : tie.Need-returns-20
 unfolding accepted applied written
-returns-20 c = rw (eq-eqb _ _ (c .before .before .before .before .before .before .if1 .left), c .before .before .before .before .e .given .1, ← (c .before .before .register-at .ensures), c .enum-told14 .given .1)
+returns-20 c = rw (eq-eqb _ _ (c .before .before .before .before .before .if1 .left), c .before .before .before .e .given .1, ← (of-write _ _ _ _ (c .before .before .before .before .before .before .before .before .before .before .before .before .pre) (c .before .before .before .e .given .1)), c .enum-told14 .given .1)
 
 returns-21 : tie.Need-returns-21
 unfolding accepted applied written
-returns-21 c = rw (eq-eqb _ _ (c .before .before .before .before .before .before .before .if1 .left), c .before .before .before .before .before .e .given .1, ← (c .before .before .before .register-at .ensures), c .before .enum-told15 .given .1, c .bit2 .ensures)
+returns-21 c = rw (eq-eqb _ _ (c .before .before .before .before .before .before .if1 .left), c .before .before .before .before .e .given .1, ← (of-write _ _ _ _ (c .before .before .before .before .before .before .before .before .before .before .before .before .before .pre) (c .before .before .before .before .e .given .1)), c .before .enum-told15 .given .1, c .bit2 .ensures)
 
 returns-22 : tie.Need-returns-22
 unfolding accepted applied written
-returns-22 c = rw (eq-eqb _ _ (c .before .before .before .before .before .before .if1 .left), c .before .before .before .before .e .given .1, ← (c .before .before .register-at .ensures), c .enum-told16 .given .1)
+returns-22 c = rw (eq-eqb _ _ (c .before .before .before .before .before .if1 .left), c .before .before .before .e .given .1, ← (of-write _ _ _ _ (c .before .before .before .before .before .before .before .before .before .before .before .before .pre) (c .before .before .before .e .given .1)), c .enum-told16 .given .1)
 
 returns-23 : tie.Need-returns-23
 unfolding accepted applied written
-returns-23 c = rw (eq-eqb _ _ (c .before .before .before .before .before .before .if1 .left), c .before .before .before .before .e .given .1, ← (c .before .before .register-at .ensures), c .enum-told17 .given .1)
+returns-23 c = rw (eq-eqb _ _ (c .before .before .before .before .before .if1 .left), c .before .before .before .e .given .1, ← (of-write _ _ _ _ (c .before .before .before .before .before .before .before .before .before .before .before .before .pre) (c .before .before .before .e .given .1)), c .enum-told17 .given .1)
 
 returns-24 : tie.Need-returns-24
 unfolding accepted applied written
-returns-24 c = rw (eq-eqb _ _ (c .before .before .before .before .before .before .if1 .left), c .before .before .before .before .e .given .1, ← (c .before .before .register-at .ensures), c .enum-told18 .given .1)
+returns-24 c = rw (eq-eqb _ _ (c .before .before .before .before .before .if1 .left), c .before .before .before .e .given .1, ← (of-write _ _ _ _ (c .before .before .before .before .before .before .before .before .before .before .before .before .pre) (c .before .before .before .e .given .1)), c .enum-told18 .given .1)
 
 returns-25 : tie.Need-returns-25
 unfolding accepted applied written
-returns-25 c = rw (eq-eqb _ _ (c .before .before .before .before .before .before .if1 .left), c .before .before .before .before .e .given .1, ← (c .before .before .register-at .ensures), c .enum-told19 .given .1)
+returns-25 c = rw (eq-eqb _ _ (c .before .before .before .before .before .if1 .left), c .before .before .before .e .given .1, ← (of-write _ _ _ _ (c .before .before .before .before .before .before .before .before .before .before .before .before .pre) (c .before .before .before .e .given .1)), c .enum-told19 .given .1)
 
 returns-26 : tie.Need-returns-26
 unfolding accepted applied written
-returns-26 c = rw (eq-eqb _ _ (c .before .before .before .before .before .before .if1 .left), c .before .before .before .before .e .given .1, ← (c .before .before .register-at .ensures), c .enum-told20 .given .1)
+returns-26 c = rw (eq-eqb _ _ (c .before .before .before .before .before .if1 .left), c .before .before .before .e .given .1, ← (of-write _ _ _ _ (c .before .before .before .before .before .before .before .before .before .before .before .before .pre) (c .before .before .before .e .given .1)), c .enum-told20 .given .1)
 
 returns-27 : tie.Need-returns-27
 unfolding accepted applied written
-returns-27 c = rw (eq-eqb _ _ (c .before .before .before .before .before .before .if1 .left), c .before .before .before .before .e .given .1, ← (c .before .before .register-at .ensures), c .enum-told21 .given .1)
+returns-27 c = rw (eq-eqb _ _ (c .before .before .before .before .before .if1 .left), c .before .before .before .e .given .1, ← (of-write _ _ _ _ (c .before .before .before .before .before .before .before .before .before .before .before .before .pre) (c .before .before .before .e .given .1)), c .enum-told21 .given .1)
 
 returns-28 : tie.Need-returns-28
 unfolding accepted applied written
-returns-28 c = rw (eq-eqb _ _ (c .before .before .before .before .before .before .if1 .left), c .before .before .before .before .e .given .1, ← (c .before .before .register-at .ensures), c .enum-told22 .given .1)
+returns-28 c = rw (eq-eqb _ _ (c .before .before .before .before .before .if1 .left), c .before .before .before .e .given .1, ← (of-write _ _ _ _ (c .before .before .before .before .before .before .before .before .before .before .before .before .pre) (c .before .before .before .e .given .1)), c .enum-told22 .given .1)
 
 returns-29 : tie.Need-returns-29
 unfolding accepted applied
@@ -468,7 +464,6 @@ accepted-spec =
     core-reset-requires
     enum-told-2
     enum-known-e
-    register-at-requires
     enum-told-3
     bit-requires
     master-reset-requires

@@ -7,12 +7,7 @@ use Rattle.controller.proofs.banks_after.Tie as tie
 use Rattle.controller.proofs.banks_after.Reads as reads
 use Rattle.controller.proofs.banks_after.Lts as lts
 use Rattle.controller.proofs.banks_written.Reads as banks-written-reads
-use Rattle.registers.proofs.register_at.Reads as register-at-reads
-
--- src/lib.rt:337:9
-returns : tie.Need-returns
-unfolding banksAfter banksApplied reset
-returns c = simp (ne-eqb _ _ (c .if1 .taken))
+use Rattle.controller.specs.After.{of-write}
 
 -- src/lib.rt:340:24
 enum-told : tie.Need-enum-told
@@ -25,10 +20,6 @@ enum-told-2 c = search needs
 -- src/lib.rt:342:21
 enum-known-e : tie.Need-enum-known-e
 enum-known-e c = search needs
-
--- src/lib.rt:342:44
-register-at-requires : tie.Need-register-at-requires
-register-at-requires c κs = search needs
 
 -- src/lib.rt:342:30
 banks-written-requires : tie.Need-banks-written-requires
@@ -62,6 +53,11 @@ enum-told-8 c = search needs
 enum-told-9 : tie.Need-enum-told-9
 enum-told-9 c = search needs
 
+-- src/lib.rt:337:9
+returns : tie.Need-returns
+unfolding banksAfter banksApplied reset
+returns c = simp (ne-eqb _ _ (c .if1 .taken))
+
 -- src/lib.rt:333:1
 returns-2 : tie.Need-returns-2
 unfolding banksAfter banksApplied reset
@@ -75,7 +71,7 @@ returns-3 c = simp (c .enum-told2 .given .1, eq-eqb _ _ (c .before .before .if1 
 -- src/lib.rt:333:1
 returns-4 : tie.Need-returns-4
 unfolding banksAfter banksApplied reset
-returns-4 c = simp (c .banks-written .ensures, c .before .register-at .ensures, c .before .before .before .e .given .1, eq-eqb _ _ (c .before .before .before .before .before .if1 .left))
+returns-4 c = simp (c .banks-written .ensures, of-write _ _ _ _ (c .before .before .before .before .before .pre) (c .before .before .e .given .1), c .before .before .e .given .1, eq-eqb _ _ (c .before .before .before .before .if1 .left))
 
 -- src/lib.rt:333:1
 returns-5 : tie.Need-returns-5
@@ -116,11 +112,9 @@ pub banks-after-spec : {M : Type 1} → statement M
 banks-after-spec =
     tie.close
     (tie.spec
-    returns
     enum-told
     enum-told-2
     enum-known-e
-    register-at-requires
     banks-written-requires
     enum-told-3
     enum-told-4
@@ -129,6 +123,7 @@ banks-after-spec =
     enum-told-7
     enum-told-8
     enum-told-9
+    returns
     returns-2
     returns-3
     returns-4

@@ -7,16 +7,19 @@ use Rattle.controller.proofs.step.Lts as lts
 use Rattle.controller.proofs.banks_after.Reads as banks-after-reads
 use Rattle.controller.proofs.core_after.Reads as core-after-reads
 use Rattle.reads.proofs.lines_of.Reads as lines-of-reads
-use Rattle.reads.proofs.word_of.Reads as word-of-reads
-use Rattle.refusals.proofs.refusal.Reads as refusal-reads
+use Rattle.reads.specs.Decoded.{word-at-register}
+use Rattle.refusals.specs.Decoded.{refusal-at-register}
 
 -- src/lib.rt:336:9
-refusal-requires : tie.Need-refusal-requires
-refusal-requires c κs = search needs
+register-of-requires : tie.Need-register-of-requires
+register-of-requires c κs = search needs
+
+refusal-at-requires : tie.Need-refusal-at-requires
+refusal-at-requires c κs = search needs
 
 -- src/lib.rt:337:9
-word-of-requires : tie.Need-word-of-requires
-word-of-requires c κs = search needs
+word-at-requires : tie.Need-word-at-requires
+word-at-requires c κs = search needs
 
 -- src/lib.rt:338:9
 core-after-requires : tie.Need-core-after-requires
@@ -33,14 +36,15 @@ lines-of-requires c κs = search needs
 -- src/lib.rt:331:1
 returns : tie.Need-returns
 unfolding step answered
-returns c = simp (c .lines-of .ensures, c .before .banks-after .ensures, c .before .before .core-after .ensures, c .before .before .before .before .word-of .ensures, c .before .before .before .before .before .before .refusal .ensures)
+returns c = simp (c .lines-of .ensures, c .before .banks-after .ensures, c .before .before .core-after .ensures, c .before .before .before .before .word-at .ensures, c .before .before .before .before .before .before .refusal-at .ensures, c .before .before .before .before .before .before .before .register-of .ensures, refusal-at-register, word-at-register)
 
 pub step-spec : {M : Type 1} → statement M
 step-spec =
     tie.close
     (tie.spec
-    refusal-requires
-    word-of-requires
+    register-of-requires
+    refusal-at-requires
+    word-at-requires
     core-after-requires
     banks-after-requires
     lines-of-requires
