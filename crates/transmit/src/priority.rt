@@ -11,6 +11,7 @@ use model::Mailbox;
 use model::Mailboxes;
 use model::RequestOrder;
 use model::Sender;
+use model::Transmit;
 
 // A number that orders identifier words as the bits on the wire do: the top 11, then standard data, standard remote,
 // extended, then the low 18, then data before remote.
