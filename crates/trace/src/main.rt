@@ -10,10 +10,11 @@ use libc::STDOUT_FILENO;
 use model::Controller;
 use model::Reading;
 use model::Step;
-use reasons::Reason;
+use names::Place;
 use text::byte;
 use text::column;
 use text::put;
+use text::said;
 use unreadable::Fault;
 
 mod changes; // what a step changed
@@ -25,11 +26,11 @@ mod unreadable; // what is wrong with a record that can't be read
 
 const NUMBER_WIDTH: usize = 7;
 
-const ANSWER_COLUMN: usize = 49;
+const ANSWER_COLUMN: usize = 61;
 
-const LINES_COLUMN: usize = 91;
+const LINES_COLUMN: usize = 103;
 
-const CHANGED_COLUMN: usize = 111;
+const CHANGED_COLUMN: usize = 123;
 
 // No record has more bytes.
 const LONGEST_RECORD: usize = 16;
@@ -48,106 +49,27 @@ enum Turn {
     Steps(Step, usize),
 }
 
-// What there is to say of a step: its answer, the reason where it is refused, the filter that took its frame, and the
-// state before and after it.
+// What there is to say of a step: its answer, the filter that took its frame, and the state before and after it.
 struct Account {
     code: u8,
     lines: u8,
     word: u32,
-    reason: Reason,
     taken: Taken,
     old: View,
     new: View,
 }
 
-struct Seen {
-    controller: Controller,
-    account: Account,
-}
-
-fn no_step(z: Controller) -> Seen {
-    let c = z.core;
-    let v = changes::view_of(c);
-    Seen {
-        controller: z,
-        account: Account {
-            code: 0,
-            lines: reads::lines_of(c),
-            word: 0,
-            reason: Reason::Nothing,
-            taken: Taken::NoFrame,
-            old: v,
-            new: v,
-        },
-    }
-}
-
-fn stepped(z: Controller, e: Step) -> Seen {
-    let c = z.core;
-    let a = controller::step(z, e);
-    let next = a.controller;
-    let d = next.core;
-    Seen {
-        controller: next,
-        account: Account {
-            code: a.code,
-            lines: a.lines,
-            word: a.word,
-            reason: reasons::of_step(c, e),
-            taken: changes::taken_by(z, e, a.code),
-            old: changes::view_of(c),
-            new: changes::view_of(d),
-        },
-    }
-}
-
-fn observed(z: Controller, t: Turn) -> Seen {
-    match t {
-        Turn::Waits => no_step(z),
-        Turn::Ends => no_step(z),
-        Turn::Stops(_) => no_step(z),
-        Turn::Steps(e, _) => stepped(z, e),
-    }
-}
-
 // ---- a line
 
-fn heading(out: &mut [u8]) -> usize {
-    let a = put(out, 0, b" record  step");
-    let b = column(out, a, ANSWER_COLUMN);
-    let c = put(out, b, b"answer");
-    let d = column(out, c, LINES_COLUMN);
-    let e = put(out, d, b"lines");
-    let f = column(out, e, CHANGED_COLUMN);
-    put(out, f, b"changed\n")
-}
-
-// The line before the first record.
-fn power_on(out: &mut [u8]) -> usize {
-    let a = text::right(out, 0, NUMBER_WIDTH);
-    let b = put(out, a, b"  power on");
-    let c = column(out, b, ANSWER_COLUMN);
-    let d = put(out, c, b"-");
-    let e = lines(out, d, 0);
-    let f = column(out, e, CHANGED_COLUMN);
-    put(
-        out,
-        f,
-        b"mode Sleep, error active, mailboxes and FIFOs empty\n",
-    )
-}
-
-fn read_answer(out: &mut [u8], at: usize, o: u16, word: u32) -> usize {
-    let a = text::hex(out, at, word, 8);
-    names::fields(out, a, registers::register_at(o), word)
-}
-
 // The word of a read, the mailbox of a start, or nothing to say.
-fn done(out: &mut [u8], at: usize, e: Step, word: u32) -> usize {
+fn done(out: &mut [u8], at: usize, e: Step, g: Place, word: u32) -> usize {
     match e {
-        Step::Read(o) => read_answer(out, at, o, word),
-        Step::Start => text::numbered(out, at, b"mailbox ", word, b""),
-        _ => put(out, at, b"-"),
+        Step::Read(_) => {
+            let a = text::hex(out, at, word, 8);
+            names::fields(out, a, g, word)
+        }
+        Step::Start => said(out, at, b"mailbox %", 0, word as u64),
+        _ => byte(out, at, b'-'),
     }
 }
 
@@ -157,7 +79,7 @@ fn lines(out: &mut [u8], at: usize, up: u8) -> usize {
     if up == 0 {
         return put(out, a, b" -");
     }
-    text::flags(out, a, up as u32, b"TX FIFO0 FIFO1 SCE")
+    text::fields(out, a, b"TX FIFO0 FIFO1 SCE", 0, up as u32, 0)
 }
 
 fn changed(out: &mut [u8], at: usize, t: Taken, old: View, new: View) -> usize {
@@ -169,35 +91,27 @@ fn changed(out: &mut [u8], at: usize, t: Taken, old: View, new: View) -> usize {
     at
 }
 
-fn accepted(out: &mut [u8], at: usize, e: Step, a: Account) -> usize {
+fn answered(out: &mut [u8], at: usize, e: Step, g: Place, a: Account) -> usize {
     let t = a.taken;
     let v = a.old;
     let w = a.new;
-    let b = done(out, at, e, a.word);
-    let c = lines(out, b, a.lines);
-    changed(out, c, t, v, w)
-}
-
-fn refused(out: &mut [u8], at: usize, a: Account) -> usize {
-    let r = a.reason;
-    let b = reasons::refused(out, at, a.code, r);
-    lines(out, b, a.lines)
-}
-
-fn answered(out: &mut [u8], at: usize, e: Step, a: Account) -> usize {
-    if a.code == 0 {
-        return accepted(out, at, e, a);
+    if a.code != 0 {
+        let b = reasons::told(out, at, a.code, v, e, g);
+        return lines(out, b, a.lines);
     }
-    refused(out, at, a)
+    let c = done(out, at, e, g, a.word);
+    let d = lines(out, c, a.lines);
+    changed(out, d, t, v, w)
 }
 
 fn line(out: &mut [u8], n: u64, e: Step, a: Account) -> usize {
+    let g = names::of_step(e);
     let b = text::right(out, n, NUMBER_WIDTH);
     let c = put(out, b, b"  ");
-    let d = steps::told(out, c, e);
+    let d = steps::told(out, c, e, g);
     let f = column(out, d, ANSWER_COLUMN);
-    let g = answered(out, f, e, a);
-    byte(out, g, b'\n')
+    let h = answered(out, f, e, g, a);
+    byte(out, h, b'\n')
 }
 
 // ---- input and output
@@ -210,12 +124,14 @@ struct Input {
     failed: bool,
 }
 
-// The records so far, how many of them were refused, the bytes that they take, the text that waits, whether to go on.
+// The records so far, how many of them were refused, the bytes that they take, the interrupt lines that are up, the text
+// that waits, whether to go on.
 struct Progress {
     records: u64,
     refused: u64,
     bytes: u64,
     text: usize,
+    lines: u8,
     going: bool,
     input: Input,
 }
@@ -349,6 +265,7 @@ fn traced(p: Progress, e: Step, q: usize, a: Account, out: &mut [u8]) -> Progres
         refused: std::num::wrapping_add_u64(p.refused, bits::one(a.code != 0) as u64),
         bytes: std::num::wrapping_add_u64(p.bytes, q as u64),
         text: std::num::wrapping_add_usize(p.text, k),
+        lines: a.lines,
         going: true,
         input: Input {
             place: std::num::wrapping_add_usize(i.place, q),
@@ -360,11 +277,16 @@ fn traced(p: Progress, e: Step, q: usize, a: Account, out: &mut [u8]) -> Progres
 }
 
 // The last line; `out` has text up to `at` that is not counted yet.
-fn stop(p: Progress, out: &mut [u8], at: usize, why: &[u8]) -> Progress {
-    let a = put(out, at, why);
-    let b = text::counted(out, a, b" at byte ", p.bytes, b": ");
-    let c = text::counted(out, b, b"", p.records, b" records, ");
-    let n = text::counted(out, c, b"", p.refused, b" refused\n");
+fn stop(p: Progress, out: &mut [u8], at: usize, why: u32) -> Progress {
+    let a = said(
+        out,
+        at,
+        b"stopped at byte %: |end of the script at byte %: |standard input can't be read on, stopped at byte %: ",
+        why,
+        p.bytes,
+    );
+    let b = said(out, a, b"% records, ", 0, p.records);
+    let n = said(out, b, b"% refused\n", 0, p.refused);
     let mut q = p;
     q.text = std::num::wrapping_add_usize(p.text, n);
     q.going = false;
@@ -372,8 +294,8 @@ fn stop(p: Progress, out: &mut [u8], at: usize, why: &[u8]) -> Progress {
 }
 
 fn complain_of(out: &mut [u8], n: u64, place: u64, f: Fault) {
-    let a = text::counted(out, 0, b"trace: record ", n, b"");
-    let b = text::counted(out, a, b" at byte ", place, b": ");
+    let a = said(out, 0, b"trace: record %", 0, n);
+    let b = said(out, a, b" at byte %: ", 0, place);
     let c = unreadable::told(out, b, f);
     let k = least(byte(out, c, b'\n'), out.len());
     complain(&out[0..k]);
@@ -381,56 +303,46 @@ fn complain_of(out: &mut [u8], n: u64, place: u64, f: Fault) {
 
 fn unread_line(out: &mut [u8], n: u64, place: u64, f: Fault, up: u8) -> usize {
     let a = text::right(out, n, NUMBER_WIDTH);
-    let b = text::counted(out, a, b"  can't be read, at byte ", place, b"");
+    let b = said(out, a, b"  can't be read, at byte %", 0, place);
     let c = column(out, b, ANSWER_COLUMN);
     let d = unreadable::told(out, c, f);
     let e = lines(out, d, up);
     byte(out, e, b'\n')
 }
 
-// A record that can't be read.
-fn stopped(p: Progress, f: Fault, up: u8, out: &mut [u8]) -> Progress {
+// A record that can't be read; where reading failed the script may just break off inside it.
+fn unread(p: Progress, failed: bool, f: Fault, out: &mut [u8]) -> Progress {
+    if failed & (f.code == 6) {
+        return stop(p, out, 0, 2);
+    }
     let n = std::num::wrapping_add_u64(p.records, 1);
     let mut space = [0u8; 256];
     complain_of(&mut space, n, p.bytes, f);
-    let k = unread_line(out, n, p.bytes, f, up);
-    stop(p, out, k, b"stopped")
+    let k = unread_line(out, n, p.bytes, f, p.lines);
+    stop(p, out, k, 0)
 }
 
-// At the end of what could be read, which may break off inside a record where reading failed.
-fn finished(p: Progress, failed: bool, out: &mut [u8]) -> Progress {
-    if failed {
-        return stop(p, out, 0, b"standard input can't be read on, stopped");
-    }
-    stop(p, out, 0, b"end of the script")
-}
-
-fn unread(p: Progress, failed: bool, f: Fault, up: u8, out: &mut [u8]) -> Progress {
-    if failed & unreadable::is_short(f) {
-        return finished(p, true, out);
-    }
-    stopped(p, f, up, out)
-}
-
-fn told(p: Progress, t: Turn, a: Account, out: &mut [u8]) -> Progress {
+fn told(p: Progress, t: Turn, out: &mut [u8]) -> Progress {
     let i = p.input;
-    let m = least(p.text, out.len());
     match t {
-        Turn::Waits => p,
-        Turn::Ends => finished(p, i.failed, &mut out[m..]),
-        Turn::Stops(f) => unread(p, i.failed, f, a.lines, &mut out[m..]),
-        Turn::Steps(e, q) => traced(p, e, q, a, &mut out[m..]),
+        Turn::Ends => stop(p, out, 0, bits::pick_u32(i.failed, 2, 1)),
+        Turn::Stops(f) => unread(p, i.failed, f, out),
+        _ => p,
     }
 }
 
 fn begun(out: &mut [u8]) -> Progress {
-    let m = least(heading(out), out.len());
-    let k = power_on(&mut out[m..]);
+    let k = put(
+        out,
+        0,
+        b" record  step                                                answer                                    lines               changed\n      0  power on                                            -                                         -                   mode Sleep, error active, mailboxes and FIFOs empty\n",
+    );
     Progress {
         records: 0,
         refused: 0,
         bytes: 0,
-        text: std::num::wrapping_add_usize(m, k),
+        text: k,
+        lines: 0,
         going: true,
         input: Input {
             place: 0,
@@ -446,18 +358,38 @@ struct State {
     progress: Progress,
 }
 
+fn stepped(z: Controller, p: Progress, e: Step, q: usize, out: &mut [u8]) -> State {
+    let c = z.core;
+    let a = controller::step(z, e);
+    let next = a.controller;
+    let d = next.core;
+    let x = Account {
+        code: a.code,
+        lines: a.lines,
+        word: a.word,
+        taken: changes::taken_by(z, e, a.code),
+        old: changes::view_of(c),
+        new: changes::view_of(d),
+    };
+    State {
+        controller: next,
+        progress: traced(p, e, q, x, out),
+    }
+}
+
 fn round(s: State, input: &mut [u8], out: &mut [u8]) -> State {
     let z = s.controller;
     let p = s.progress;
     let u = turn_of(p, input, out);
     let t = u.turn;
     let q = u.progress;
-    let o = observed(z, t);
-    let a = o.account;
-    let next = o.controller;
-    State {
-        controller: next,
-        progress: told(q, t, a, out),
+    let m = least(q.text, out.len());
+    match t {
+        Turn::Steps(e, k) => stepped(z, q, e, k, &mut out[m..]),
+        _ => State {
+            controller: z,
+            progress: told(q, t, &mut out[m..]),
+        },
     }
 }
 

@@ -31,13 +31,6 @@ pub(crate) fn column(out: &mut [u8], at: usize, to: usize) -> usize {
     spaces(out, k, k, to)
 }
 
-pub(crate) fn put_if(out: &mut [u8], at: usize, b: bool, text: &[u8]) -> usize {
-    if b {
-        return put(out, at, text);
-    }
-    at
-}
-
 // ---- numbers
 
 pub(crate) fn decimal(out: &mut [u8], at: usize, n: u64) -> usize {
@@ -52,17 +45,6 @@ pub(crate) fn right(out: &mut [u8], n: u64, width: usize) -> usize {
     let k = io::decimal(n, &mut digits);
     let at = spaces(out, 0, k, width);
     put(out, at, &digits[..k])
-}
-
-// A number between two texts.
-pub(crate) fn counted(out: &mut [u8], at: usize, before: &[u8], n: u64, after: &[u8]) -> usize {
-    let a = put(out, at, before);
-    let b = decimal(out, a, n);
-    put(out, b, after)
-}
-
-pub(crate) fn numbered(out: &mut [u8], at: usize, before: &[u8], n: u32, after: &[u8]) -> usize {
-    counted(out, at, before, n as u64, after)
 }
 
 fn digit(n: u32) -> u8 {
@@ -110,37 +92,139 @@ pub(crate) fn bytes(out: &mut [u8], at: usize, w: u32, n: u32) -> usize {
     p
 }
 
-// ---- flags
+// ---- a part of a table; each part ends with a bar
 
-fn letter(out: &mut [u8], at: usize, b: u8, set: bool, first: bool) -> usize {
-    if !set | (b == b' ') | (b == b'-') {
-        return at;
+fn next_part(part: u32, b: u8) -> u32 {
+    if b == b'|' {
+        return std::num::wrapping_add_u32(part, 1);
     }
-    if first {
-        let k = byte(out, at, b' ');
-        return byte(out, k, b);
-    }
-    byte(out, at, b)
+    part
 }
 
-fn next_bit(bits: u32, ended: bool) -> u32 {
-    if ended {
-        return bits / 2;
+fn said_byte(out: &mut [u8], at: usize, b: u8, n: u64) -> usize {
+    match b {
+        b'|' => at,
+        b'%' => decimal(out, at, n),
+        _ => byte(out, at, b),
     }
-    bits
 }
 
-// The names of the bits that are set, each with a space in front. `names` has a word for each bit from bit 0 up, and a
-// dash for a bit that is no flag.
-pub(crate) fn flags(out: &mut [u8], at: usize, w: u32, names: &[u8]) -> usize {
+fn said_here(out: &mut [u8], at: usize, here: bool, b: u8, n: u64) -> usize {
+    if here {
+        return said_byte(out, at, b, n);
+    }
+    at
+}
+
+// Part `which` of a table, with the number in place of each percent sign.
+pub(crate) fn said(out: &mut [u8], at: usize, table: &[u8], which: u32, n: u64) -> usize {
     let mut k = at;
-    let mut bits = w;
-    let mut first = true;
-    for i in 0..names.len() {
-        let b = names[i];
-        k = letter(out, k, b, bits % 2 == 1, first);
-        first = b == b' ';
-        bits = next_bit(bits, first);
+    let mut part: u32 = 0;
+    for i in 0..table.len() {
+        let b = table[i];
+        k = said_here(out, k, part == which, b, n);
+        part = next_part(part, b);
     }
     k
+}
+
+// ---- fields of a word
+
+// The place in the text, the bits from the present field on, how many values the field has, whether it has a name.
+struct Pen {
+    at: usize,
+    rest: u32,
+    size: u32,
+    named: bool,
+}
+
+// A byte of the name of a field, where the field is not 0.
+fn letter(out: &mut [u8], p: Pen, b: u8, j: u32) -> usize {
+    if p.size == 0 {
+        return p.at;
+    }
+    if p.rest % p.size == 0 {
+        return p.at;
+    }
+    if b == b'%' {
+        return decimal(out, p.at, j as u64);
+    }
+    if p.named {
+        return byte(out, p.at, b);
+    }
+    let k = byte(out, p.at, b' ');
+    byte(out, k, b)
+}
+
+// The number of a field of several bits, where it is not 0.
+fn number(out: &mut [u8], at: usize, told: bool, n: u32) -> usize {
+    if !told | (n == 0) {
+        return at;
+    }
+    let k = byte(out, at, b' ');
+    decimal(out, k, n as u64)
+}
+
+fn ended(out: &mut [u8], p: Pen) -> Pen {
+    if p.size == 0 {
+        return p;
+    }
+    Pen {
+        at: number(out, p.at, p.named & (2 < p.size), p.rest % p.size),
+        rest: p.rest / p.size,
+        size: 2,
+        named: false,
+    }
+}
+
+fn drawn(out: &mut [u8], p: Pen, b: u8, w: u32, j: u32) -> Pen {
+    let mut q = p;
+    match b {
+        b'.' => {
+            q.size = std::num::wrapping_add_u32(p.size, p.size);
+            q
+        }
+        b'/' => {
+            q.rest = p.rest / 256;
+            q
+        }
+        b'^' => {
+            q.rest = w;
+            q
+        }
+        b'-' => q,
+        b' ' => ended(out, p),
+        b'|' => ended(out, p),
+        _ => {
+            q.at = letter(out, p, b, j);
+            q.named = true;
+            q
+        }
+    }
+}
+
+fn drawn_here(out: &mut [u8], p: Pen, here: bool, b: u8, w: u32, j: u32) -> Pen {
+    if here {
+        return drawn(out, p, b, w, j);
+    }
+    p
+}
+
+// The fields of a word that are not 0, each with a space in front: a flag by its name, a longer field by name and
+// number. Part `which` of the table has a word for each field from bit 0 up, with a dot for each bit after its first;
+// a dash is no field, a slash skips a byte, a caret goes back to bit 0, a percent sign stands for j.
+pub(crate) fn fields(out: &mut [u8], at: usize, table: &[u8], which: u32, w: u32, j: u32) -> usize {
+    let mut p = Pen {
+        at: at,
+        rest: w,
+        size: 2,
+        named: false,
+    };
+    let mut part: u32 = 0;
+    for i in 0..table.len() {
+        let b = table[i];
+        p = drawn_here(out, p, part == which, b, w, j);
+        part = next_part(part, b);
+    }
+    p.at
 }

@@ -1,13 +1,11 @@
 // What is wrong with a record that can't be read.
-use super::text::counted;
 use super::text::hex;
-use super::text::numbered;
-use super::text::put;
+use super::text::said;
 use model::Reading;
 
 // The code, the tag, the length bytes as a number, and how many bytes of the script are left.
 pub(crate) struct Fault {
-    code: u8,
+    pub(crate) code: u8,
     tag: u8,
     length: u32,
     left: u64,
@@ -60,36 +58,43 @@ fn body_length(tag: u8) -> u8 {
     n
 }
 
-fn short(out: &mut [u8], at: usize, f: Fault) -> usize {
-    if f.left < 3 {
-        return counted(out, at, b"short header, ", f.left, b" bytes of 3");
+// The part of the table for a fault: a header or a body that is short, a wrong length, an unknown tag.
+fn kind(f: Fault) -> u32 {
+    if f.code == 8 {
+        return 2;
     }
-    let a = counted(out, at, b"short body, ", f.left - 3, b" bytes of ");
-    numbered(out, a, b"", f.length, b"")
+    if f.code == 7 {
+        return 3;
+    }
+    bits::one(3 <= f.left)
 }
 
-fn wrong_length(out: &mut [u8], at: usize, f: Fault) -> usize {
-    let a = numbered(out, at, b"length ", f.length, b", tag ");
-    let b = hex(out, a, f.tag as u32, 2);
-    numbered(out, b, b" takes ", body_length(f.tag) as u32, b"")
-}
-
-fn unknown_tag(out: &mut [u8], at: usize, f: Fault) -> usize {
-    let a = put(out, at, b"unknown tag ");
-    hex(out, a, f.tag as u32, 2)
+// The number of bytes that are there.
+fn count(f: Fault) -> u64 {
+    if f.code == 8 {
+        return f.length as u64;
+    }
+    if f.left < 3 {
+        return f.left;
+    }
+    f.left - 3
 }
 
 pub(crate) fn told(out: &mut [u8], at: usize, f: Fault) -> usize {
-    let a = numbered(out, at, b"refused ", f.code as u32, b": ");
-    let code = f.code;
-    match code {
-        7 => unknown_tag(out, a, f),
-        8 => wrong_length(out, a, f),
-        _ => short(out, a, f),
+    let a = said(out, at, b"refused %: ", 0, f.code as u64);
+    let b = said(
+        out,
+        a,
+        b"short header, % bytes of 3|short body, % bytes of |length %, tag |unknown tag ",
+        kind(f),
+        count(f),
+    );
+    if f.code < 7 {
+        return said(out, b, b"|%", kind(f), f.length as u64);
     }
-}
-
-// The script ends inside the record.
-pub(crate) fn is_short(f: Fault) -> bool {
-    f.code == 6
+    let c = hex(out, b, f.tag as u32, 2);
+    if f.code == 7 {
+        return c;
+    }
+    said(out, c, b" takes %", 0, body_length(f.tag) as u64)
 }
