@@ -1,0 +1,50 @@
+use mathlib.Core.Path.{_≡_}
+use lib.ListN.{length}
+use Prim.Native.Nat.{_-_}
+use borrow.Author.Needs.{needs}
+use Rattle.trace.proofs.text.bytes.Statement.{statement}
+use Rattle.trace.proofs.text.bytes.Tie as tie
+use Rattle.trace.proofs.text.bytes.Reads as reads
+use Rattle.trace.proofs.text.bytes.Lts as lts
+use Rattle.trace.proofs.text.pair.Reads as pair-reads
+
+abbrev Inv-loop : tie.InvT-loop
+Inv-loop out₀ at w n p₀ rest₀ i₀ out p rest i = length out ≡ length out₀
+
+abbrev μ-loop : tie.MeasureT-loop
+μ-loop out₀ at w n p₀ rest₀ i₀ out p rest i = n - i
+
+loop-holds : tie.Need-loop-holds Inv-loop μ-loop
+loop-holds c = search needs
+
+pair-requires : tie.Need-pair-requires Inv-loop μ-loop
+pair-requires c κs = search needs
+
+add-i : tie.Need-add-i Inv-loop μ-loop
+add-i c = search needs
+
+loop-less : tie.Need-loop-less Inv-loop μ-loop
+loop-less c = search needs
+
+loop-again : tie.Need-loop-again Inv-loop μ-loop
+loop-again c = search needs
+
+same-length : tie.Need-same-length Inv-loop μ-loop
+same-length c = search needs
+
+returns : tie.Need-returns Inv-loop μ-loop
+returns c = search needs
+
+pub bytes-spec : {M : Type 1} → statement M
+bytes-spec =
+    tie.close
+    (tie.spec
+    Inv-loop
+    μ-loop
+    loop-holds
+    pair-requires
+    add-i
+    loop-less
+    loop-again
+    same-length
+    returns)
