@@ -86,7 +86,7 @@ fn say_fault(k: Count, malformed: bool, code: u8, script: &[u8], place: usize) {
 fn replayed(p: Progress, script: &[u8], replies: &mut [u8], last: bool) -> Progress {
     let z = p.controller;
     let k = p.count;
-    let r = script::replay(z, script, replies);
+    let r = bench::replay(z, script, replies);
     let waits = !last & stream::goes_on(r.ended, r.code);
     let ok = is_written(k, replies, sent(r.written, waits & (r.code == 6)));
     let c = passed(k, r.records, r.place, script.len(), waits & ok);
