@@ -1,8 +1,8 @@
 // Replays a bench script from standard input, of any length, and writes the replies to standard output.
-use libc::STDERR_FILENO;
 use libc::STDOUT_FILENO;
 use model::Controller;
-use model::Replay;
+
+mod say;
 
 // After a piece: the part of the space that is not replayed yet, the records and bytes before it, and whether to read on.
 struct Count {
@@ -56,7 +56,7 @@ fn less_nine(n: usize) -> usize {
 
 // Says at which record and byte something is wrong.
 fn say_place(k: Count) {
-    stream::say_place(b"replay", std::num::wrapping_add_u64(k.records, 1), k.bytes);
+    say::place(std::num::wrapping_add_u64(k.records, 1), k.bytes);
 }
 
 // Writes the first n bytes of replies and answers whether that went well.
@@ -66,10 +66,7 @@ fn is_written(k: Count, replies: &[u8], n: usize) -> bool {
     let ok = io::write_all(STDOUT_FILENO, &replies[start..m]);
     if !ok {
         say_place(k);
-        io::write_all(
-            STDERR_FILENO,
-            b"standard output can't be written; the replies from here on are lost\n",
-        );
+        say::say(b"standard output can't be written; the replies from here on are lost\n");
     }
     ok
 }
@@ -78,7 +75,7 @@ fn is_written(k: Count, replies: &[u8], n: usize) -> bool {
 fn say_fault(k: Count, malformed: bool, code: u8, script: &[u8], place: usize) {
     if malformed {
         say_place(k);
-        stream::say_fault(code, script, place);
+        say::fault(code, script, place);
     }
 }
 
@@ -104,7 +101,7 @@ fn next(p: Progress, space: &mut [u8], replies: &mut [u8]) -> Progress {
     let f = stream::refilled(space, k.from, k.to);
     if f.failed {
         say_place(k);
-        io::write_all(STDERR_FILENO, b"standard input can't be read\n");
+        say::say(b"standard input can't be read\n");
         let z = p.controller;
         return Progress {
             controller: z,
