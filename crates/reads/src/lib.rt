@@ -58,9 +58,9 @@ fn read_word(g: Register, c: Core, banks: &[u32; 28]) -> u32
         Register::Msr => {
             let q = t.queue;
             let s = q.transmitting;
-            control::msr_word(k, transmit::queue::is_nobody(s))
+            control::msr_word(k, queue::is_nobody(s))
         }
-        Register::Tsr => transmit::tsr::tsr(bits::bit(2, k.mcr), t),
+        Register::Tsr => priority::tsr::tsr(bits::bit(2, k.mcr), t),
         Register::Rfr(x) => receive::rfr_word(fifo_of(x, c)),
         Register::Ier => k.ier,
         Register::Esr => {
@@ -68,20 +68,20 @@ fn read_word(g: Register, c: Core, banks: &[u32; 28]) -> u32
             control::esr_word(e)
         }
         Register::Btr => k.btr,
-        Register::Ti(m) => transmit::tsr::ti_word(t, m),
+        Register::Ti(m) => mailboxes::ti_word(t, m),
         Register::Tdt(m) => {
             let b = t.mailboxes;
-            let x = transmit::mailbox::at(b, m);
+            let x = mailboxes::at(b, m);
             x.tdt
         }
         Register::Tdl(m) => {
             let b = t.mailboxes;
-            let x = transmit::mailbox::at(b, m);
+            let x = mailboxes::at(b, m);
             x.tdl
         }
         Register::Tdh(m) => {
             let b = t.mailboxes;
-            let x = transmit::mailbox::at(b, m);
+            let x = mailboxes::at(b, m);
             x.tdh
         }
         Register::Ri(x) => {
@@ -130,8 +130,8 @@ pub fn word_at(c: Core, banks: &[u32; 28], e: Step, g: Register, code: u8) -> u3
             let b = c.transmit.mailboxes;
             let q = c.transmit.queue;
             let o = q.order;
-            let i = transmit::priority::identifiers(b);
-            transmit::queue::sender_number(transmit::priority::first(bits::bit(2, k.mcr), i, o))
+            let i = priority::identifiers(b);
+            queue::sender_number(priority::first(bits::bit(2, k.mcr), i, o))
         }
         Step::Outcome(_) => 0,
         Step::Receive(_) => 0,

@@ -13,7 +13,7 @@ pub fn has_request(c: Core, m: Mailbox) -> bool
 {
     let q = c.transmit.queue;
     let o = q.order;
-    transmit::queue::holds(o, m)
+    queue::holds(o, m)
 }
 
 pub fn is_free(c: Core) -> bool
@@ -21,7 +21,7 @@ pub fn is_free(c: Core) -> bool
 {
     let q = c.transmit.queue;
     let s = q.transmitting;
-    transmit::queue::is_nobody(s)
+    queue::is_nobody(s)
 }
 
 pub fn may_start(c: Core) -> bool
@@ -35,7 +35,7 @@ pub fn may_start(c: Core) -> bool
     control::is_normal(m)
         & !control::boff(e)
         & is_free(c)
-        & !transmit::queue::is_empty(o)
+        & !queue::is_empty(o)
         & !(bits::bit(31, k.btr) & !bits::bit(30, k.btr))
 }
 

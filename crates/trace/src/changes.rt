@@ -36,10 +36,10 @@ pub(crate) struct View {
 fn mailbox_state(q: Queue, m: Mailbox) -> u32 {
     let o = q.order;
     let s = q.transmitting;
-    if transmit::queue::is_from(s, m) {
+    if queue::is_from(s, m) {
         return 2;
     }
-    bits::one(transmit::queue::holds(o, m))
+    bits::one(queue::holds(o, m))
 }
 
 pub(crate) fn view_of(c: Core) -> View {

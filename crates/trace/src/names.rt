@@ -55,19 +55,19 @@ fn of_register(g: Register) -> Place {
         Register::Btr => single(BTR),
         Register::Ti(m) => Place {
             kind: TI,
-            index: transmit::queue::number(m),
+            index: queue::number(m),
         },
         Register::Tdt(m) => Place {
             kind: 8,
-            index: transmit::queue::number(m),
+            index: queue::number(m),
         },
         Register::Tdl(m) => Place {
             kind: 9,
-            index: transmit::queue::number(m),
+            index: queue::number(m),
         },
         Register::Tdh(m) => Place {
             kind: 10,
-            index: transmit::queue::number(m),
+            index: queue::number(m),
         },
         Register::Ri(f) => Place {
             kind: RI,

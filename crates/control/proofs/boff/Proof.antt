@@ -1,8 +1,6 @@
 use mathlib.Core.Path.{refl}
 use Rattle.control.proofs.boff.Statement.{statement}
 use Rattle.control.proofs.boff.Tie as tie
-use Rattle.control.proofs.boff.Reads as reads
-use Rattle.control.proofs.boff.Lts as lts
 
 returns : tie.Need-returns
 returns c = refl

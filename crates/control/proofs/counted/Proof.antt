@@ -2,13 +2,6 @@ use Rattle.model.specs.Control.{counted}
 use borrow.Author.Needs.{needs}
 use Rattle.control.proofs.counted.Statement.{statement}
 use Rattle.control.proofs.counted.Tie as tie
-use Rattle.control.proofs.counted.Reads as reads
-use Rattle.control.proofs.counted.Lts as lts
-use Rattle.bits.proofs.pick_u8.Reads as pick-u8-reads
-use Rattle.control.proofs.counts.Reads as counts-reads
-use Rattle.control.proofs.recovers.Reads as recovers-reads
-use Rattle.control.proofs.same_control.Reads as same-control-reads
-use Rattle.std.proofs.num.wrapping_add_u8.Reads as wrapping-add-u8-reads
 
 recovers-requires : tie.Need-recovers-requires
 recovers-requires c κs = search needs

@@ -2,11 +2,6 @@ use Rattle.model.specs.Control.{counts}
 use borrow.Author.Needs.{needs}
 use Rattle.control.proofs.counts.Statement.{statement}
 use Rattle.control.proofs.counts.Tie as tie
-use Rattle.control.proofs.counts.Reads as reads
-use Rattle.control.proofs.counts.Lts as lts
-use Rattle.control.proofs.abom.Reads as abom-reads
-use Rattle.control.proofs.boff.Reads as boff-reads
-use Rattle.control.proofs.is_normal.Reads as is-normal-reads
 
 boff-requires : tie.Need-boff-requires
 boff-requires c κs = search needs

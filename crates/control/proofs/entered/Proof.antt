@@ -2,13 +2,6 @@ use Rattle.model.specs.Control.{entered}
 use borrow.Author.Needs.{needs}
 use Rattle.control.proofs.entered.Statement.{statement}
 use Rattle.control.proofs.entered.Tie as tie
-use Rattle.control.proofs.entered.Reads as reads
-use Rattle.control.proofs.entered.Lts as lts
-use Rattle.bits.proofs.bit.Reads as bit-reads
-use Rattle.bits.proofs.pick_bool.Reads as pick-bool-reads
-use Rattle.bits.proofs.pick_u8.Reads as pick-u8-reads
-use Rattle.control.proofs.is_initialization.Reads as is-initialization-reads
-use Rattle.control.proofs.is_sleep.Reads as is-sleep-reads
 
 is-sleep-requires : tie.Need-is-sleep-requires
 is-sleep-requires c κs = search needs

@@ -2,12 +2,6 @@ use Rattle.model.specs.Control.{esrWord}
 use borrow.Author.Needs.{needs}
 use Rattle.control.proofs.esr_word.Statement.{statement}
 use Rattle.control.proofs.esr_word.Tie as tie
-use Rattle.control.proofs.esr_word.Reads as reads
-use Rattle.control.proofs.esr_word.Lts as lts
-use Rattle.bits.proofs.one.Reads as one-reads
-use Rattle.control.proofs.boff.Reads as boff-reads
-use Rattle.control.proofs.epvf.Reads as epvf-reads
-use Rattle.control.proofs.ewgf.Reads as ewgf-reads
 
 ewgf-requires : tie.Need-ewgf-requires
 ewgf-requires c κs = search needs

@@ -2,9 +2,6 @@ use Rattle.model.specs.Control.{esrWritten}
 use borrow.Author.Needs.{needs}
 use Rattle.control.proofs.esr_written.Statement.{statement}
 use Rattle.control.proofs.esr_written.Tie as tie
-use Rattle.control.proofs.esr_written.Reads as reads
-use Rattle.control.proofs.esr_written.Lts as lts
-use Rattle.bits.proofs.pick_u8.Reads as pick-u8-reads
 
 pick-u8-requires : tie.Need-pick-u8-requires
 pick-u8-requires c κs = search needs

@@ -2,11 +2,6 @@ use Rattle.model.specs.Control.{idleErrors}
 use borrow.Author.Needs.{needs}
 use Rattle.control.proofs.idle_errors.Statement.{statement}
 use Rattle.control.proofs.idle_errors.Tie as tie
-use Rattle.control.proofs.idle_errors.Reads as reads
-use Rattle.control.proofs.idle_errors.Lts as lts
-use Rattle.bits.proofs.pick_u16.Reads as pick-u16-reads
-use Rattle.bits.proofs.pick_u8.Reads as pick-u8-reads
-use Rattle.control.proofs.recovers.Reads as recovers-reads
 
 recovers-requires : tie.Need-recovers-requires
 recovers-requires c κs = search needs

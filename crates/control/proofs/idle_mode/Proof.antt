@@ -2,8 +2,6 @@ use Rattle.model.specs.Control.{idleMode}
 use borrow.Author.Tests.{eq-eqb, ne-eqb}
 use Rattle.control.proofs.idle_mode.Statement.{statement}
 use Rattle.control.proofs.idle_mode.Tie as tie
-use Rattle.control.proofs.idle_mode.Reads as reads
-use Rattle.control.proofs.idle_mode.Lts as lts
 
 returns : tie.Need-returns
 unfolding idleMode

@@ -2,12 +2,6 @@ use Rattle.model.specs.Control.{idled}
 use borrow.Author.Needs.{needs}
 use Rattle.control.proofs.idled.Statement.{statement}
 use Rattle.control.proofs.idled.Tie as tie
-use Rattle.control.proofs.idled.Reads as reads
-use Rattle.control.proofs.idled.Lts as lts
-use Rattle.control.proofs.boff.Reads as boff-reads
-use Rattle.control.proofs.counted.Reads as counted-reads
-use Rattle.control.proofs.entered.Reads as entered-reads
-use Rattle.control.proofs.idle_mode.Reads as idle-mode-reads
 
 counted-requires : tie.Need-counted-requires
 counted-requires c κs = search needs

@@ -2,11 +2,6 @@ use Rattle.model.specs.Control.{mcrWritten}
 use borrow.Author.Needs.{needs}
 use Rattle.control.proofs.mcr_written.Statement.{statement}
 use Rattle.control.proofs.mcr_written.Tie as tie
-use Rattle.control.proofs.mcr_written.Reads as reads
-use Rattle.control.proofs.mcr_written.Lts as lts
-use Rattle.bits.proofs.bit.Reads as bit-reads
-use Rattle.bits.proofs.pick_u16.Reads as pick-u16-reads
-use Rattle.control.proofs.same_control.Reads as same-control-reads
 
 mul-d : tie.Need-mul-d
 mul-d c = search needs

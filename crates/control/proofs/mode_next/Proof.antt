@@ -2,8 +2,6 @@ use Rattle.model.specs.Control.{modeNext}
 use borrow.Author.Needs.{needs}
 use Rattle.control.proofs.mode_next.Statement.{statement}
 use Rattle.control.proofs.mode_next.Tie as tie
-use Rattle.control.proofs.mode_next.Reads as reads
-use Rattle.control.proofs.mode_next.Lts as lts
 
 enum-told : tie.Need-enum-told
 enum-told c = search needs

@@ -2,10 +2,6 @@ use Rattle.model.specs.Control.{msrWord}
 use borrow.Author.Needs.{needs}
 use Rattle.control.proofs.msr_word.Statement.{statement}
 use Rattle.control.proofs.msr_word.Tie as tie
-use Rattle.control.proofs.msr_word.Reads as reads
-use Rattle.control.proofs.msr_word.Lts as lts
-use Rattle.bits.proofs.one.Reads as one-reads
-use Rattle.control.proofs.mode_bits.Reads as mode-bits-reads
 
 mode-bits-requires : tie.Need-mode-bits-requires
 mode-bits-requires c κs = search needs

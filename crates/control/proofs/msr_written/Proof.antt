@@ -2,10 +2,6 @@ use Rattle.model.specs.Control.{msrWritten}
 use borrow.Author.Needs.{needs}
 use Rattle.control.proofs.msr_written.Statement.{statement}
 use Rattle.control.proofs.msr_written.Tie as tie
-use Rattle.control.proofs.msr_written.Reads as reads
-use Rattle.control.proofs.msr_written.Lts as lts
-use Rattle.bits.proofs.bit.Reads as bit-reads
-use Rattle.control.proofs.same_control.Reads as same-control-reads
 
 bit-requires : tie.Need-bit-requires
 bit-requires c κs = search needs

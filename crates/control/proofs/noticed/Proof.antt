@@ -2,13 +2,6 @@ use Rattle.model.specs.Control.{noticed}
 use borrow.Author.Needs.{needs}
 use Rattle.control.proofs.noticed.Statement.{statement}
 use Rattle.control.proofs.noticed.Tie as tie
-use Rattle.control.proofs.noticed.Reads as reads
-use Rattle.control.proofs.noticed.Lts as lts
-use Rattle.bits.proofs.bit.Reads as bit-reads
-use Rattle.bits.proofs.pick_u8.Reads as pick-u8-reads
-use Rattle.control.proofs.boff.Reads as boff-reads
-use Rattle.control.proofs.epvf.Reads as epvf-reads
-use Rattle.control.proofs.ewgf.Reads as ewgf-reads
 
 boff-requires : tie.Need-boff-requires
 boff-requires c κs = search needs

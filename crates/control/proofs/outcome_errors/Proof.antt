@@ -3,10 +3,6 @@ use borrow.Author.Tests.{eq-eqb, ne-eqb}
 use borrow.Author.Needs.{needs}
 use Rattle.control.proofs.outcome_errors.Statement.{statement}
 use Rattle.control.proofs.outcome_errors.Tie as tie
-use Rattle.control.proofs.outcome_errors.Reads as reads
-use Rattle.control.proofs.outcome_errors.Lts as lts
-use Rattle.control.proofs.less_one_u16.Reads as less-one-u16-reads
-use Rattle.std.proofs.num.wrapping_add_u16.Reads as wrapping-add-u16-reads
 
 less-one-u16-requires : tie.Need-less-one-u16-requires
 less-one-u16-requires c κs = search needs

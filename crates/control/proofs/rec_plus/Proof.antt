@@ -3,8 +3,6 @@ use borrow.Author.Tests.{lt-ltb, le-ltb}
 use borrow.Author.Needs.{needs}
 use Rattle.control.proofs.rec_plus.Statement.{statement}
 use Rattle.control.proofs.rec_plus.Tie as tie
-use Rattle.control.proofs.rec_plus.Reads as reads
-use Rattle.control.proofs.rec_plus.Lts as lts
 
 sub-if1 : tie.Need-sub-if1
 sub-if1 c = search needs

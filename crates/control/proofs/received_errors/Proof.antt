@@ -2,10 +2,6 @@ use Rattle.model.specs.Control.{receivedErrors}
 use borrow.Author.Needs.{needs}
 use Rattle.control.proofs.received_errors.Statement.{statement}
 use Rattle.control.proofs.received_errors.Tie as tie
-use Rattle.control.proofs.received_errors.Reads as reads
-use Rattle.control.proofs.received_errors.Lts as lts
-use Rattle.bits.proofs.pick_u8.Reads as pick-u8-reads
-use Rattle.control.proofs.less_one_u8.Reads as less-one-u8-reads
 
 less-one-u8-requires : tie.Need-less-one-u8-requires
 less-one-u8-requires c κs = search needs

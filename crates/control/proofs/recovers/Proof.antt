@@ -2,9 +2,6 @@ use Rattle.model.specs.Control.{recovers}
 use borrow.Author.Needs.{needs}
 use Rattle.control.proofs.recovers.Statement.{statement}
 use Rattle.control.proofs.recovers.Tie as tie
-use Rattle.control.proofs.recovers.Reads as reads
-use Rattle.control.proofs.recovers.Lts as lts
-use Rattle.control.proofs.counts.Reads as counts-reads
 
 counts-requires : tie.Need-counts-requires
 counts-requires c κs = search needs

@@ -3,13 +3,6 @@ use borrow.Author.Needs.{needs}
 use Rattle.control.proofs.Settling.{settled-stays}
 use Rattle.control.proofs.settled.Statement.{statement}
 use Rattle.control.proofs.settled.Tie as tie
-use Rattle.control.proofs.settled.Reads as reads
-use Rattle.control.proofs.settled.Lts as lts
-use Rattle.control.proofs.entered.Reads as entered-reads
-use Rattle.control.proofs.inrq.Reads as inrq-reads
-use Rattle.control.proofs.mode_next.Reads as mode-next-reads
-use Rattle.control.proofs.same_control.Reads as same-control-reads
-use Rattle.control.proofs.sleep.Reads as sleep-reads
 
 inrq-requires : tie.Need-inrq-requires
 inrq-requires c κs = search needs

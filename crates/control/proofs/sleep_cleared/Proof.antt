@@ -3,9 +3,6 @@ use borrow.Author.Needs.{needs}
 use Rattle.control.proofs.Settling.{two-or-more}
 use Rattle.control.proofs.sleep_cleared.Statement.{statement}
 use Rattle.control.proofs.sleep_cleared.Tie as tie
-use Rattle.control.proofs.sleep_cleared.Reads as reads
-use Rattle.control.proofs.sleep_cleared.Lts as lts
-use Rattle.bits.proofs.bit.Reads as bit-reads
 
 bit-requires : tie.Need-bit-requires
 bit-requires c κs = search needs

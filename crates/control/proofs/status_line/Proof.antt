@@ -2,9 +2,6 @@ use Rattle.model.specs.Control.{statusLine}
 use borrow.Author.Needs.{needs}
 use Rattle.control.proofs.status_line.Statement.{statement}
 use Rattle.control.proofs.status_line.Tie as tie
-use Rattle.control.proofs.status_line.Reads as reads
-use Rattle.control.proofs.status_line.Lts as lts
-use Rattle.bits.proofs.bit.Reads as bit-reads
 
 bit-requires : tie.Need-bit-requires
 bit-requires c κs = search needs

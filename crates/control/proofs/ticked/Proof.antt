@@ -2,13 +2,6 @@ use Rattle.model.specs.Control.{ticked}
 use borrow.Author.Needs.{needs}
 use Rattle.control.proofs.ticked.Statement.{statement}
 use Rattle.control.proofs.ticked.Tie as tie
-use Rattle.control.proofs.ticked.Reads as reads
-use Rattle.control.proofs.ticked.Lts as lts
-use Rattle.bits.proofs.pick_u16.Reads as pick-u16-reads
-use Rattle.control.proofs.is_normal.Reads as is-normal-reads
-use Rattle.control.proofs.same_control.Reads as same-control-reads
-use Rattle.control.proofs.ttcm.Reads as ttcm-reads
-use Rattle.std.proofs.num.wrapping_add_u16.Reads as wrapping-add-u16-reads
 
 wrapping-add-u16-requires : tie.Need-wrapping-add-u16-requires
 wrapping-add-u16-requires c κs = search needs

@@ -2,12 +2,6 @@ use Rattle.model.specs.Control.{woken}
 use borrow.Author.Needs.{needs}
 use Rattle.control.proofs.woken.Statement.{statement}
 use Rattle.control.proofs.woken.Tie as tie
-use Rattle.control.proofs.woken.Reads as reads
-use Rattle.control.proofs.woken.Lts as lts
-use Rattle.bits.proofs.pick_u32.Reads as pick-u32-reads
-use Rattle.control.proofs.awum.Reads as awum-reads
-use Rattle.control.proofs.same_control.Reads as same-control-reads
-use Rattle.control.proofs.sleep_cleared.Reads as sleep-cleared-reads
 
 awum-requires : tie.Need-awum-requires
 awum-requires c κs = search needs

@@ -4,20 +4,13 @@ use Rattle.controller.specs.After.{accepted, after}
 use borrow.Author.Needs.{needs}
 use Rattle.controller.proofs.core_after.Statement.{statement}
 use Rattle.controller.proofs.core_after.Tie as tie
-use Rattle.controller.proofs.core_after.Reads as reads
-use Rattle.controller.proofs.core_after.Lts as lts
-use Rattle.controller.proofs.accepted.Reads as accepted-reads
-use Rattle.controller.proofs.settled_if.Reads as settled-if-reads
 
--- src/lib.rt:282:9
 accepted-requires : tie.Need-accepted-requires
 accepted-requires c κs = search needs
 
--- src/lib.rt:283:9
 settled-if-requires : tie.Need-settled-if-requires
 settled-if-requires c κs = search needs
 
--- src/lib.rt:279:1
 returns : tie.Need-returns
 unfolding coreAfter accepted
 returns c =

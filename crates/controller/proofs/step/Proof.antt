@@ -2,38 +2,27 @@ use borrow.Author.Needs.{needs}
 use Rattle.model.specs.Step.{step, answered}
 use Rattle.controller.proofs.step.Statement.{statement}
 use Rattle.controller.proofs.step.Tie as tie
-use Rattle.controller.proofs.step.Reads as reads
-use Rattle.controller.proofs.step.Lts as lts
-use Rattle.controller.proofs.banks_after.Reads as banks-after-reads
-use Rattle.controller.proofs.core_after.Reads as core-after-reads
-use Rattle.reads.proofs.lines_of.Reads as lines-of-reads
 use Rattle.reads.specs.Decoded.{word-at-register}
 use Rattle.refusals.specs.Decoded.{refusal-at-register}
 
--- src/lib.rt:336:9
 register-of-requires : tie.Need-register-of-requires
 register-of-requires c κs = search needs
 
 refusal-at-requires : tie.Need-refusal-at-requires
 refusal-at-requires c κs = search needs
 
--- src/lib.rt:337:9
 word-at-requires : tie.Need-word-at-requires
 word-at-requires c κs = search needs
 
--- src/lib.rt:338:9
 core-after-requires : tie.Need-core-after-requires
 core-after-requires c κs = search needs
 
--- src/lib.rt:339:9
 banks-after-requires : tie.Need-banks-after-requires
 banks-after-requires c κs = search needs
 
--- src/lib.rt:340:9
 lines-of-requires : tie.Need-lines-of-requires
 lines-of-requires c κs = search needs
 
--- src/lib.rt:331:1
 returns : tie.Need-returns
 unfolding step answered
 returns c = simp (c .lines-of .ensures, c .before .banks-after .ensures, c .before .before .core-after .ensures, c .before .before .before .before .word-at .ensures, c .before .before .before .before .before .before .refusal-at .ensures, c .before .before .before .before .before .before .before .register-of .ensures, refusal-at-register, word-at-register)

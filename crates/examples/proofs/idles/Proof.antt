@@ -2,14 +2,6 @@ use Prim.Native.Nat.{_-_, _≤_}
 use borrow.Author.Needs.{needs}
 use Rattle.examples.proofs.idles.Statement.{statement}
 use Rattle.examples.proofs.idles.Tie as tie
-use Rattle.examples.proofs.idles.Reads as reads
-use Rattle.examples.proofs.idles.Lts as lts
-use Rattle.controller.proofs.reset.Reads as reset-reads
-use Rattle.examples.proofs.idled.Reads as idled-reads
-use Rattle.examples.proofs.normal.Reads as normal-reads
-use Rattle.examples.proofs.number.Reads as number-reads
-use Rattle.examples.proofs.reads.Reads as reads-reads
-use Rattle.examples.proofs.with_counters.Reads as with-counters-reads
 
 abbrev Inv-loop : tie.InvT-loop
 Inv-loop n z₀ i₀ z i = i ≤ n
@@ -17,47 +9,36 @@ Inv-loop n z₀ i₀ z i = i ≤ n
 abbrev μ-loop : tie.MeasureT-loop
 μ-loop n z₀ i₀ z i = n - i
 
--- src/main.rt:143:38
 reset-requires : tie.Need-reset-requires Inv-loop μ-loop
 reset-requires c κs = search needs
 
--- src/main.rt:143:31
 normal-requires : tie.Need-normal-requires Inv-loop μ-loop
 normal-requires c κs = search needs
 
--- src/main.rt:143:9
 with-counters-requires : tie.Need-with-counters-requires Inv-loop μ-loop
 with-counters-requires c κs = search needs
 
--- src/main.rt:144:5
 loop-holds : tie.Need-loop-holds Inv-loop μ-loop
 loop-holds c = search needs
 
--- src/main.rt:145:9
 idled-requires : tie.Need-idled-requires Inv-loop μ-loop
 idled-requires c κs = search needs
 
--- src/main.rt:144:9
 add-i : tie.Need-add-i Inv-loop μ-loop
 add-i c = search needs
 
--- src/main.rt:144:5
 loop-less : tie.Need-loop-less Inv-loop μ-loop
 loop-less c = search needs
 
--- src/main.rt:144:5
 loop-again : tie.Need-loop-again Inv-loop μ-loop
 loop-again c = search needs
 
--- src/main.rt:147:12
 reads-requires : tie.Need-reads-requires Inv-loop μ-loop
 reads-requires c κs = search needs
 
--- src/main.rt:147:5
 number-requires : tie.Need-number-requires Inv-loop μ-loop
 number-requires c κs = search needs
 
--- src/main.rt:142:1
 returns : tie.Need-returns Inv-loop μ-loop
 returns c = search needs
 

@@ -2,10 +2,7 @@ use mathlib.Core.Path.{refl}
 use Rattle.model.specs.Step.{anyRqcp}
 use Rattle.reads.proofs.any_rqcp.Statement.{statement}
 use Rattle.reads.proofs.any_rqcp.Tie as tie
-use Rattle.reads.proofs.any_rqcp.Reads as reads
-use Rattle.reads.proofs.any_rqcp.Lts as lts
 
--- src/lib.rt:139:1
 returns : tie.Need-returns
 unfolding anyRqcp
 returns c = refl

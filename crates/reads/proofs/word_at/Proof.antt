@@ -4,13 +4,6 @@ use Rattle.model.specs.Step.{wordOf}
 use Rattle.reads.specs.Decoded.{wordAt}
 use Rattle.reads.proofs.word_at.Statement.{statement}
 use Rattle.reads.proofs.word_at.Tie as tie
-use Rattle.reads.proofs.word_at.Reads as reads
-use Rattle.reads.proofs.word_at.Lts as lts
-use Rattle.bits.proofs.bit.Reads as bit-reads
-use Rattle.reads.proofs.read_word.Reads as read-word-reads
-use Rattle.transmit.proofs.priority.first.Reads as first-reads
-use Rattle.transmit.proofs.priority.identifiers.Reads as identifiers-reads
-use Rattle.transmit.proofs.queue.sender_number.Reads as sender-number-reads
 
 returns : tie.Need-returns
 unfolding wordAt wordOf

@@ -7,8 +7,6 @@ use Rattle.receive.proofs.Shifts.{one-shifted}
 use borrow.Author.Needs.{needs}
 use Rattle.receive.proofs.bytes_kept.Statement.{statement}
 use Rattle.receive.proofs.bytes_kept.Tie as tie
-use Rattle.receive.proofs.bytes_kept.Reads as reads
-use Rattle.receive.proofs.bytes_kept.Lts as lts
 
 returns : tie.Need-returns
 unfolding bytesKept

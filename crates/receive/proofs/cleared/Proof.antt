@@ -2,9 +2,6 @@ use Rattle.model.specs.Reception.{cleared}
 use borrow.Author.Needs.{needs}
 use Rattle.receive.proofs.cleared.Statement.{statement}
 use Rattle.receive.proofs.cleared.Tie as tie
-use Rattle.receive.proofs.cleared.Reads as reads
-use Rattle.receive.proofs.cleared.Lts as lts
-use Rattle.bits.proofs.bit.Reads as bit-reads
 
 bit-requires : tie.Need-bit-requires
 bit-requires c κs = search needs

@@ -3,9 +3,6 @@ use borrow.Author.Tests.{le-leb, lt-leb}
 use borrow.Author.Needs.{needs}
 use Rattle.receive.proofs.data_bytes.Statement.{statement}
 use Rattle.receive.proofs.data_bytes.Tie as tie
-use Rattle.receive.proofs.data_bytes.Reads as reads
-use Rattle.receive.proofs.data_bytes.Lts as lts
-use Rattle.bits.proofs.bit.Reads as bit-reads
 
 bit-requires : tie.Need-bit-requires
 bit-requires c κs = search needs

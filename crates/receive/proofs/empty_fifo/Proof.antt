@@ -1,9 +1,6 @@
 use borrow.Author.Needs.{needs}
 use Rattle.receive.proofs.empty_fifo.Statement.{statement}
 use Rattle.receive.proofs.empty_fifo.Tie as tie
-use Rattle.receive.proofs.empty_fifo.Reads as reads
-use Rattle.receive.proofs.empty_fifo.Lts as lts
-use Rattle.receive.proofs.no_frame.Reads as no-frame-reads
 
 no-frame-requires : tie.Need-no-frame-requires
 no-frame-requires c κs = search needs

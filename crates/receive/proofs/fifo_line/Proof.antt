@@ -2,9 +2,6 @@ use Rattle.model.specs.Reception.{fifoLine}
 use borrow.Author.Needs.{needs}
 use Rattle.receive.proofs.fifo_line.Statement.{statement}
 use Rattle.receive.proofs.fifo_line.Tie as tie
-use Rattle.receive.proofs.fifo_line.Reads as reads
-use Rattle.receive.proofs.fifo_line.Lts as lts
-use Rattle.bits.proofs.bit.Reads as bit-reads
 
 bit-requires : tie.Need-bit-requires
 bit-requires c κs = search needs

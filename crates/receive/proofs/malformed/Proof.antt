@@ -2,9 +2,6 @@ use Rattle.model.specs.Reception.{malformed}
 use borrow.Author.Needs.{needs}
 use Rattle.receive.proofs.malformed.Statement.{statement}
 use Rattle.receive.proofs.malformed.Tie as tie
-use Rattle.receive.proofs.malformed.Reads as reads
-use Rattle.receive.proofs.malformed.Lts as lts
-use Rattle.bits.proofs.bit.Reads as bit-reads
 
 bit-requires : tie.Need-bit-requires
 bit-requires c κs = search needs

@@ -3,10 +3,6 @@ use borrow.Author.Tests.{eq-eqb, ne-eqb}
 use borrow.Author.Needs.{needs}
 use Rattle.receive.proofs.output.Statement.{statement}
 use Rattle.receive.proofs.output.Tie as tie
-use Rattle.receive.proofs.output.Reads as reads
-use Rattle.receive.proofs.output.Lts as lts
-use Rattle.receive.proofs.no_frame.Reads as no-frame-reads
-use Rattle.receive.proofs.same_frame.Reads as same-frame-reads
 
 no-frame-requires : tie.Need-no-frame-requires
 no-frame-requires c κs = search needs

@@ -3,9 +3,6 @@ use borrow.Author.Tests.{eq-eqb, ne-eqb}
 use borrow.Author.Needs.{needs}
 use Rattle.receive.proofs.pushed.Statement.{statement}
 use Rattle.receive.proofs.pushed.Tie as tie
-use Rattle.receive.proofs.pushed.Reads as reads
-use Rattle.receive.proofs.pushed.Lts as lts
-use Rattle.receive.proofs.same_frame.Reads as same-frame-reads
 
 same-frame-requires : tie.Need-same-frame-requires
 same-frame-requires c κs = search needs

@@ -2,10 +2,6 @@ use Rattle.model.specs.Reception.{received}
 use borrow.Author.Needs.{needs}
 use Rattle.receive.proofs.received.Statement.{statement}
 use Rattle.receive.proofs.received.Tie as tie
-use Rattle.receive.proofs.received.Reads as reads
-use Rattle.receive.proofs.received.Lts as lts
-use Rattle.receive.proofs.goes_into.Reads as goes-into-reads
-use Rattle.receive.proofs.pushed.Reads as pushed-reads
 
 goes-into-requires : tie.Need-goes-into-requires
 goes-into-requires c κs = search needs

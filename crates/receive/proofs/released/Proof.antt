@@ -3,10 +3,6 @@ use borrow.Author.Tests.{eq-eqb, ne-eqb}
 use borrow.Author.Needs.{needs}
 use Rattle.receive.proofs.released.Statement.{statement}
 use Rattle.receive.proofs.released.Tie as tie
-use Rattle.receive.proofs.released.Reads as reads
-use Rattle.receive.proofs.released.Lts as lts
-use Rattle.receive.proofs.no_frame.Reads as no-frame-reads
-use Rattle.receive.proofs.same_frame.Reads as same-frame-reads
 
 returns : tie.Need-returns
 unfolding released

@@ -2,9 +2,6 @@ use Rattle.model.specs.Reception.{rfrWord}
 use borrow.Author.Needs.{needs}
 use Rattle.receive.proofs.rfr_word.Statement.{statement}
 use Rattle.receive.proofs.rfr_word.Tie as tie
-use Rattle.receive.proofs.rfr_word.Reads as reads
-use Rattle.receive.proofs.rfr_word.Lts as lts
-use Rattle.bits.proofs.one.Reads as one-reads
 
 cast-result : tie.Need-cast-result
 cast-result c = search needs

@@ -2,11 +2,6 @@ use Rattle.model.specs.Reception.{rfrWritten}
 use borrow.Author.Needs.{needs}
 use Rattle.receive.proofs.rfr_written.Statement.{statement}
 use Rattle.receive.proofs.rfr_written.Tie as tie
-use Rattle.receive.proofs.rfr_written.Reads as reads
-use Rattle.receive.proofs.rfr_written.Lts as lts
-use Rattle.bits.proofs.bit.Reads as bit-reads
-use Rattle.receive.proofs.cleared.Reads as cleared-reads
-use Rattle.receive.proofs.released.Reads as released-reads
 
 cleared-requires : tie.Need-cleared-requires
 cleared-requires c κs = search needs

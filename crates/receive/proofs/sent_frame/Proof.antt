@@ -2,9 +2,6 @@ use Rattle.model.specs.Reception.{sentFrame}
 use borrow.Author.Needs.{needs}
 use Rattle.receive.proofs.sent_frame.Statement.{statement}
 use Rattle.receive.proofs.sent_frame.Tie as tie
-use Rattle.receive.proofs.sent_frame.Reads as reads
-use Rattle.receive.proofs.sent_frame.Lts as lts
-use Rattle.receive.proofs.sent_identifier.Reads as sent-identifier-reads
 
 sent-identifier-requires : tie.Need-sent-identifier-requires
 sent-identifier-requires c κs = search needs

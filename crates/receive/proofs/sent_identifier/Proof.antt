@@ -2,9 +2,6 @@ use Rattle.model.specs.Mailboxes.{sentIdentifier}
 use borrow.Author.Needs.{needs}
 use Rattle.receive.proofs.sent_identifier.Statement.{statement}
 use Rattle.receive.proofs.sent_identifier.Tie as tie
-use Rattle.receive.proofs.sent_identifier.Reads as reads
-use Rattle.receive.proofs.sent_identifier.Lts as lts
-use Rattle.bits.proofs.bit.Reads as bit-reads
 
 bit-requires : tie.Need-bit-requires
 bit-requires c κs = search needs

@@ -2,11 +2,6 @@ use Rattle.model.specs.Reception.{storedFrame}
 use borrow.Author.Needs.{needs}
 use Rattle.receive.proofs.stored_frame.Statement.{statement}
 use Rattle.receive.proofs.stored_frame.Tie as tie
-use Rattle.receive.proofs.stored_frame.Reads as reads
-use Rattle.receive.proofs.stored_frame.Lts as lts
-use Rattle.receive.proofs.bytes_kept.Reads as bytes-kept-reads
-use Rattle.receive.proofs.data_bytes.Reads as data-bytes-reads
-use Rattle.receive.proofs.past_four.Reads as past-four-reads
 
 data-bytes-requires : tie.Need-data-bytes-requires
 data-bytes-requires c κs = search needs

@@ -4,18 +4,6 @@ use Rattle.model.specs.Step.{refusal}
 use Rattle.refusals.specs.Decoded.{refusalAt}
 use Rattle.refusals.proofs.refusal_at.Statement.{statement}
 use Rattle.refusals.proofs.refusal_at.Tie as tie
-use Rattle.refusals.proofs.refusal_at.Reads as reads
-use Rattle.refusals.proofs.refusal_at.Lts as lts
-use Rattle.bits.proofs.pick_u8.Reads as pick-u8-reads
-use Rattle.control.proofs.is_sleep.Reads as is-sleep-reads
-use Rattle.receive.proofs.malformed.Reads as malformed-reads
-use Rattle.refusals.proofs.fault_in_range.Reads as fault-in-range-reads
-use Rattle.refusals.proofs.is_free.Reads as is-free-reads
-use Rattle.refusals.proofs.may_end.Reads as may-end-reads
-use Rattle.refusals.proofs.may_receive.Reads as may-receive-reads
-use Rattle.refusals.proofs.may_start.Reads as may-start-reads
-use Rattle.refusals.proofs.write_refusal.Reads as write-refusal-reads
-use Rattle.registers.proofs.is_absent.Reads as is-absent-reads
 
 enum-told : tie.Need-enum-told
 enum-told c = search needs

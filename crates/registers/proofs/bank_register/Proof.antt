@@ -2,20 +2,15 @@ use borrow.Author.Tests.{ne-eqb}
 use Rattle.model.specs.Registers.{bankRegister}
 use Rattle.registers.proofs.bank_register.Statement.{statement}
 use Rattle.registers.proofs.bank_register.Tie as tie
-use Rattle.registers.proofs.bank_register.Reads as reads
-use Rattle.registers.proofs.bank_register.Lts as lts
 
--- src/lib.rt:62:1
 returns : tie.Need-returns
 unfolding bankRegister
 returns c = simp (c .match .keys1)
 
--- src/lib.rt:62:1
 returns-2 : tie.Need-returns-2
 unfolding bankRegister
 returns-2 c = simp (c .match .keys2)
 
--- src/lib.rt:62:1
 returns-3 : tie.Need-returns-3
 unfolding bankRegister
 returns-3 c = simp (ne-eqb _ _ (c .match .rest .0 .1), ne-eqb _ _ (c .match .rest .1))

@@ -3,57 +3,42 @@ use borrow.Author.Needs.{needs}
 use Rattle.model.specs.Registers.{blockRegister}
 use Rattle.registers.proofs.block_register.Statement.{statement}
 use Rattle.registers.proofs.block_register.Tie as tie
-use Rattle.registers.proofs.block_register.Reads as reads
-use Rattle.registers.proofs.block_register.Lts as lts
-use Rattle.registers.proofs.mailbox_register.Reads as mailbox-register-reads
-use Rattle.registers.proofs.output_register.Reads as output-register-reads
 
--- src/lib.rt:53:17
 mailbox-register-requires : tie.Need-mailbox-register-requires
 mailbox-register-requires c κs = search needs
 
--- src/lib.rt:54:17
 mailbox-register-requires-2 : tie.Need-mailbox-register-requires-2
 mailbox-register-requires-2 c κs = search needs
 
--- src/lib.rt:55:17
 mailbox-register-requires-3 : tie.Need-mailbox-register-requires-3
 mailbox-register-requires-3 c κs = search needs
 
--- src/lib.rt:56:17
 output-register-requires : tie.Need-output-register-requires
 output-register-requires c κs = search needs
 
--- src/lib.rt:57:17
 output-register-requires-2 : tie.Need-output-register-requires-2
 output-register-requires-2 c κs = search needs
 
--- src/lib.rt:49:1
 returns : tie.Need-returns
 unfolding blockRegister
 returns c = simp (c .mailbox-register .ensures, c .before .match .keys1)
 
--- src/lib.rt:49:1
 returns-2 : tie.Need-returns-2
 unfolding blockRegister
 returns-2 c = simp (c .mailbox-register2 .ensures, c .before .match .keys2)
 
--- src/lib.rt:49:1
 returns-3 : tie.Need-returns-3
 unfolding blockRegister
 returns-3 c = simp (c .mailbox-register3 .ensures, c .before .match .keys3)
 
--- src/lib.rt:49:1
 returns-4 : tie.Need-returns-4
 unfolding blockRegister
 returns-4 c = simp (c .output-register .ensures, c .before .match .keys4)
 
--- src/lib.rt:49:1
 returns-5 : tie.Need-returns-5
 unfolding blockRegister
 returns-5 c = simp (c .output-register2 .ensures, c .before .match .keys5)
 
--- src/lib.rt:49:1
 returns-6 : tie.Need-returns-6
 unfolding blockRegister
 returns-6 c = simp (ne-eqb _ _ (c .match .rest .0 .0 .0 .0 .1), ne-eqb _ _ (c .match .rest .0 .0 .0 .1), ne-eqb _ _ (c .match .rest .0 .0 .1), ne-eqb _ _ (c .match .rest .0 .1), ne-eqb _ _ (c .match .rest .1))

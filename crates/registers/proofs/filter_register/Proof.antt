@@ -3,54 +3,41 @@ use borrow.Author.Needs.{needs}
 use Rattle.model.specs.Registers.{filterRegister}
 use Rattle.registers.proofs.filter_register.Statement.{statement}
 use Rattle.registers.proofs.filter_register.Tie as tie
-use Rattle.registers.proofs.filter_register.Reads as reads
-use Rattle.registers.proofs.filter_register.Lts as lts
-use Rattle.registers.proofs.bank_register.Reads as bank-register-reads
 
--- src/lib.rt:83:17
 returns : tie.Need-returns
 unfolding filterRegister
 returns c = simp (lt-leb _ _ (c .if1 .taken), ne-eqb _ _ (c .before .match .rest .0 .0 .0 .0 .1), ne-eqb _ _ (c .before .match .rest .0 .0 .0 .1), ne-eqb _ _ (c .before .match .rest .0 .0 .1), ne-eqb _ _ (c .before .match .rest .0 .1), ne-eqb _ _ (c .before .match .rest .1))
 
--- src/lib.rt:86:17
 returns-2 : tie.Need-returns-2
 unfolding filterRegister
 returns-2 c = simp (le-ltb _ _ (c .if2 .taken), le-leb _ _ (c .before .if1 .left), ne-eqb _ _ (c .before .before .match .rest .0 .0 .0 .0 .1), ne-eqb _ _ (c .before .before .match .rest .0 .0 .0 .1), ne-eqb _ _ (c .before .before .match .rest .0 .0 .1), ne-eqb _ _ (c .before .before .match .rest .0 .1), ne-eqb _ _ (c .before .before .match .rest .1))
 
--- src/lib.rt:89:32
 cast-t6 : tie.Need-cast-t6
 cast-t6 c = search needs
 
--- src/lib.rt:89:13
 bank-register-requires : tie.Need-bank-register-requires
 bank-register-requires c κs = search needs
 
--- src/lib.rt:72:1
 returns-3 : tie.Need-returns-3
 unfolding filterRegister
 returns-3 c = simp (c .match .keys1)
 
--- src/lib.rt:72:1
 returns-4 : tie.Need-returns-4
 unfolding filterRegister
 returns-4 c = simp (c .match .keys2)
 
--- src/lib.rt:72:1
 returns-5 : tie.Need-returns-5
 unfolding filterRegister
 returns-5 c = simp (c .match .keys3)
 
--- src/lib.rt:72:1
 returns-6 : tie.Need-returns-6
 unfolding filterRegister
 returns-6 c = simp (c .match .keys4)
 
--- src/lib.rt:72:1
 returns-7 : tie.Need-returns-7
 unfolding filterRegister
 returns-7 c = simp (c .match .keys5)
 
--- src/lib.rt:72:1
 returns-8 : tie.Need-returns-8
 unfolding filterRegister
 returns-8 c = simp (c .bank-register .ensures, lt-ltb _ _ (c .before .if2 .left), le-leb _ _ (c .before .before .if1 .left), ne-eqb _ _ (c .before .before .before .match .rest .0 .0 .0 .0 .1), ne-eqb _ _ (c .before .before .before .match .rest .0 .0 .0 .1), ne-eqb _ _ (c .before .before .before .match .rest .0 .0 .1), ne-eqb _ _ (c .before .before .before .match .rest .0 .1), ne-eqb _ _ (c .before .before .before .match .rest .1))

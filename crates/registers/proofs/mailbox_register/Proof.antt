@@ -2,30 +2,23 @@ use borrow.Author.Tests.{ne-eqb}
 use Rattle.model.specs.Registers.{mailboxRegister}
 use Rattle.registers.proofs.mailbox_register.Statement.{statement}
 use Rattle.registers.proofs.mailbox_register.Tie as tie
-use Rattle.registers.proofs.mailbox_register.Reads as reads
-use Rattle.registers.proofs.mailbox_register.Lts as lts
 
--- src/lib.rt:25:1
 returns : tie.Need-returns
 unfolding mailboxRegister
 returns c = simp (c .match .keys1)
 
--- src/lib.rt:25:1
 returns-2 : tie.Need-returns-2
 unfolding mailboxRegister
 returns-2 c = simp (c .match .keys2)
 
--- src/lib.rt:25:1
 returns-3 : tie.Need-returns-3
 unfolding mailboxRegister
 returns-3 c = simp (c .match .keys3)
 
--- src/lib.rt:25:1
 returns-4 : tie.Need-returns-4
 unfolding mailboxRegister
 returns-4 c = simp (c .match .keys4)
 
--- src/lib.rt:25:1
 returns-5 : tie.Need-returns-5
 unfolding mailboxRegister
 returns-5 c = simp (ne-eqb _ _ (c .match .rest .0 .0 .0 .1), ne-eqb _ _ (c .match .rest .0 .0 .1), ne-eqb _ _ (c .match .rest .0 .1), ne-eqb _ _ (c .match .rest .1))

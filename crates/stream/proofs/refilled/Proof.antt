@@ -4,57 +4,40 @@ use lib.ListN.{length}
 use Rattle.stream.proofs.Moves.{refills}
 use Rattle.stream.proofs.refilled.Statement.{statement}
 use Rattle.stream.proofs.refilled.Tie as tie
-use Rattle.stream.proofs.refilled.Reads as reads
-use Rattle.stream.proofs.refilled.Lts as lts
-use Rattle.io.proofs.count.Reads as count-reads
-use Rattle.libc.proofs.read.Reads as read-reads
-use Rattle.stream.proofs.to_front.Reads as to-front-reads
 
--- src/lib.rt:50:9
 to-front-requires : tie.Need-to-front-requires
 to-front-requires c κs = search needs
 
--- src/lib.rt:51:40
 sub-read : tie.Need-sub-read
 sub-read c = search needs
 
--- src/lib.rt:51:40
 part-read-start : tie.Need-part-read-start
 part-read-start c = search needs
 
--- src/lib.rt:51:40
 part-read-end : tie.Need-part-read-end
 part-read-end c = search needs
 
--- src/lib.rt:51:9
 read-requires : tie.Need-read-requires
 read-requires c κs = search needs
 
--- src/lib.rt:52:31
 sub-count : tie.Need-sub-count
 sub-count c = search needs
 
--- src/lib.rt:52:31
 part-count-start : tie.Need-part-count-start
 part-count-start c = search needs
 
--- src/lib.rt:52:31
 part-count-end : tie.Need-part-count-end
 part-count-end c = search needs
 
--- src/lib.rt:52:9
 count-requires : tie.Need-count-requires
 count-requires c κs = search needs
 
--- src/lib.rt:54:17
 add-t10 : tie.Need-add-t10
 add-t10 c = search needs
 
--- src/lib.rt:46:1
 same-length : tie.Need-same-length
 same-length c = search needs
 
--- src/lib.rt:46:1
 returns : tie.Need-returns
 returns c =
     let a = c .before .before .before .before .before .before .before .before .before .before .before .before .args in

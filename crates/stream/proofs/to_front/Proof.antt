@@ -7,9 +7,6 @@ use Rattle.stream.specs.Space.{between, moved}
 use Rattle.stream.proofs.Moves.{nothing-moved, length-moved, one-moved}
 use Rattle.stream.proofs.to_front.Statement.{statement}
 use Rattle.stream.proofs.to_front.Tie as tie
-use Rattle.stream.proofs.to_front.Reads as reads
-use Rattle.stream.proofs.to_front.Lts as lts
-use Rattle.stream.proofs.least.Reads as least-reads
 
 abbrev Inv-loop : tie.InvT-loop
 Inv-loop space₀ from to n end k i₀ space i = (i ≤ k) × (from + k ≤ length space₀) × (space ≡ moved from i space₀)
@@ -17,27 +14,21 @@ Inv-loop space₀ from to n end k i₀ space i = (i ≤ k) × (from + k ≤ leng
 abbrev μ-loop : tie.MeasureT-loop
 μ-loop space₀ from to n end k i₀ space i = k - i
 
--- src/lib.rt:17:9
 least-requires : tie.Need-least-requires Inv-loop μ-loop
 least-requires c κs = search needs
 
--- src/lib.rt:19:9
 returns : tie.Need-returns Inv-loop μ-loop
 returns c = search needs
 
--- src/lib.rt:21:13
 sub-k : tie.Need-sub-k Inv-loop μ-loop
 sub-k c = search needs
 
--- src/lib.rt:23:5
 loop-holds : tie.Need-loop-holds Inv-loop μ-loop
 loop-holds c = search needs
 
--- src/lib.rt:24:17
 add-j : tie.Need-add-j Inv-loop μ-loop
 add-j c = search needs
 
--- src/lib.rt:25:20
 slice-read-space : tie.Need-slice-read-space Inv-loop μ-loop
 slice-read-space c =
     let a = c .before .before .before .before .before .before .args in
@@ -45,7 +36,6 @@ slice-read-space c =
     let e : length (l .space) ≡ length (a .space .now) = ap length (l .inv .2) ∙ length-moved (a .from) (l .i) (a .space .now) (omega (arith, l .inv)) in
     omega (arith, e, l .inv)
 
--- src/lib.rt:25:9
 slice-write-space : tie.Need-slice-write-space Inv-loop μ-loop
 slice-write-space c =
     let a = c .before .before .before .before .before .before .args in
@@ -53,22 +43,18 @@ slice-write-space c =
     let e : length (l .space) ≡ length (a .space .now) = ap length (l .inv .2) ∙ length-moved (a .from) (l .i) (a .space .now) (omega (arith, l .inv)) in
     omega (arith, e, l .inv)
 
--- src/lib.rt:26:9
 add-i : tie.Need-add-i Inv-loop μ-loop
 add-i c = search needs
 
--- src/lib.rt:23:5
 loop-less : tie.Need-loop-less Inv-loop μ-loop
 loop-less c = search needs
 
--- src/lib.rt:23:5
 loop-again : tie.Need-loop-again Inv-loop μ-loop
 loop-again c =
     let a = c .before .before .before .before .before .before .args in
     let l = c .before .before .loop in
     (omega arith, l .inv .1, ap (λ s. set s (l .i) (getD s (a .from + l .i) 0)) (l .inv .2) ∙ one-moved (a .from) (l .i) (a .space .now) 0 (omega (arith, l .inv)))
 
--- src/lib.rt:12:1
 same-length : tie.Need-same-length Inv-loop μ-loop
 same-length c =
     let a = c .before .before .before .before .before .args in
@@ -76,7 +62,6 @@ same-length c =
     let e : length (l .space) ≡ length (a .space .now) = ap length (l .inv .2) ∙ length-moved (a .from) (l .i) (a .space .now) (omega (arith, l .inv)) in
     e
 
--- src/lib.rt:12:1
 returns-2 : tie.Need-returns-2 Inv-loop μ-loop
 returns-2 c =
     let a = c .before .before .before .before .before .args in

@@ -4,8 +4,6 @@ use Prim.Native.Nat.{_-_}
 use borrow.Author.Needs.{needs}
 use Rattle.trace.proofs.moved.Statement.{statement}
 use Rattle.trace.proofs.moved.Tie as tie
-use Rattle.trace.proofs.moved.Reads as reads
-use Rattle.trace.proofs.moved.Lts as lts
 
 abbrev Inv-loop : tie.InvT-loop
 Inv-loop input₀ place n i₀ input i = length input ≡ length input₀

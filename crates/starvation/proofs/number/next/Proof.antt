@@ -2,28 +2,20 @@ use Rattle.starvation.specs.Number as numbers
 use borrow.Author.Needs.{needs}
 use Rattle.starvation.proofs.number.next.Statement.{statement}
 use Rattle.starvation.proofs.number.next.Tie as tie
-use Rattle.starvation.proofs.number.next.Reads as reads
-use Rattle.starvation.proofs.number.next.Lts as lts
-use Rattle.starvation.proofs.number.with_digit.Reads as with-digit-reads
 
--- src/number.rt:32:25
 enum-known-p : tie.Need-enum-known-p
 enum-known-p c = search needs
 
--- src/number.rt:32:31
 with-digit-requires : tie.Need-with-digit-requires
 with-digit-requires c κs = search needs
 
--- src/number.rt:33:25
 enum-told : tie.Need-enum-told
 enum-told c = search needs
 
--- src/number.rt:28:1
 returns : tie.Need-returns
 unfolding numbers.next
 returns c = simp (c .with-digit .ensures, c .before .before .p .given .1)
 
--- src/number.rt:28:1
 returns-2 : tie.Need-returns-2
 unfolding numbers.next
 returns-2 c = simp (c .enum-told .given .1)

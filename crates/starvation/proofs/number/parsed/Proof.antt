@@ -9,9 +9,6 @@ use Rattle.starvation.specs.declared.number.Numeral.the-variants.{Number
 use Rattle.starvation.proofs.Digits.{one-more, at-end}
 use Rattle.starvation.proofs.number.parsed.Statement.{statement}
 use Rattle.starvation.proofs.number.parsed.Tie as tie
-use Rattle.starvation.proofs.number.parsed.Reads as reads
-use Rattle.starvation.proofs.number.parsed.Lts as lts
-use Rattle.starvation.proofs.number.next.Reads as next-reads
 
 abbrev Inv-loop : tie.InvT-loop
 Inv-loop text p₀ i₀ p i = (i ≤ length text) × (readOn p (drop i text) ≡ readOn (Number 0) text)
@@ -19,32 +16,25 @@ Inv-loop text p₀ i₀ p i = (i ≤ length text) × (readOn p (drop i text) ≡
 abbrev μ-loop : tie.MeasureT-loop
 μ-loop text p₀ i₀ p i = length text - i
 
--- src/number.rt:42:9
 returns : tie.Need-returns Inv-loop μ-loop
 unfolding parsed
 returns c = simp (eq-eqb _ _ (c .if1 .taken))
 
--- src/number.rt:46:5
 loop-holds : tie.Need-loop-holds Inv-loop μ-loop
 loop-holds c = (omega arith, refl)
 
--- src/number.rt:47:21
 shared-slice-read-next : tie.Need-shared-slice-read-next Inv-loop μ-loop
 shared-slice-read-next c = search needs
 
--- src/number.rt:47:9
 next-requires : tie.Need-next-requires Inv-loop μ-loop
 next-requires c κs = search needs
 
--- src/number.rt:48:9
 add-i : tie.Need-add-i Inv-loop μ-loop
 add-i c = search needs
 
--- src/number.rt:46:5
 loop-less : tie.Need-loop-less Inv-loop μ-loop
 loop-less c = search needs
 
--- src/number.rt:46:5
 loop-again : tie.Need-loop-again Inv-loop μ-loop
 loop-again c =
     let t = c .before .before .before .before .before .before .args .text .now in
@@ -52,7 +42,6 @@ loop-again c =
     let h : l .i < length t = omega arith in
     (omega arith, one-more (l .p) (c .next .result) t (l .i) h (c .next .ensures) ∙ l .inv .1)
 
--- src/number.rt:38:1
 returns-2 : tie.Need-returns-2 Inv-loop μ-loop
 unfolding parsed
 returns-2 c =

@@ -4,9 +4,6 @@ use Prim.Native.Nat.{_-_}
 use borrow.Author.Needs.{needs}
 use Rattle.trace.proofs.text.bytes.Statement.{statement}
 use Rattle.trace.proofs.text.bytes.Tie as tie
-use Rattle.trace.proofs.text.bytes.Reads as reads
-use Rattle.trace.proofs.text.bytes.Lts as lts
-use Rattle.trace.proofs.text.pair.Reads as pair-reads
 
 abbrev Inv-loop : tie.InvT-loop
 Inv-loop out₀ at w n p₀ rest₀ i₀ out p rest i = length out ≡ length out₀

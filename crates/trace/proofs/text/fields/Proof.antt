@@ -4,10 +4,6 @@ use Prim.Native.Nat.{_-_}
 use borrow.Author.Needs.{needs}
 use Rattle.trace.proofs.text.fields.Statement.{statement}
 use Rattle.trace.proofs.text.fields.Tie as tie
-use Rattle.trace.proofs.text.fields.Reads as reads
-use Rattle.trace.proofs.text.fields.Lts as lts
-use Rattle.trace.proofs.text.drawn_here.Reads as drawn-here-reads
-use Rattle.trace.proofs.text.next_part.Reads as next-part-reads
 
 abbrev Inv-loop : tie.InvT-loop
 Inv-loop out₀ at table which w j p₀ part₀ i₀ i-end out p part i = length out ≡ length out₀

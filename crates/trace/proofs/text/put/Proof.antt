@@ -4,9 +4,6 @@ use Prim.Native.Nat.{_-_}
 use borrow.Author.Needs.{needs}
 use Rattle.trace.proofs.text.put.Statement.{statement}
 use Rattle.trace.proofs.text.put.Tie as tie
-use Rattle.trace.proofs.text.put.Reads as reads
-use Rattle.trace.proofs.text.put.Lts as lts
-use Rattle.trace.proofs.text.byte.Reads as byte-reads
 
 abbrev Inv-loop : tie.InvT-loop
 Inv-loop out₀ at text k₀ i₀ i-end out k i = length out ≡ length out₀

@@ -4,10 +4,6 @@ use Prim.Native.Nat.{_-_}
 use borrow.Author.Needs.{needs}
 use Rattle.trace.proofs.text.said.Statement.{statement}
 use Rattle.trace.proofs.text.said.Tie as tie
-use Rattle.trace.proofs.text.said.Reads as reads
-use Rattle.trace.proofs.text.said.Lts as lts
-use Rattle.trace.proofs.text.next_part.Reads as next-part-reads
-use Rattle.trace.proofs.text.said_here.Reads as said-here-reads
 
 abbrev Inv-loop : tie.InvT-loop
 Inv-loop out₀ at table which n k₀ part₀ i₀ i-end out k part i = length out ≡ length out₀

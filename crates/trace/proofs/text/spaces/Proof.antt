@@ -4,9 +4,6 @@ use Prim.Native.Nat.{_-_}
 use borrow.Author.Needs.{needs}
 use Rattle.trace.proofs.text.spaces.Statement.{statement}
 use Rattle.trace.proofs.text.spaces.Tie as tie
-use Rattle.trace.proofs.text.spaces.Reads as reads
-use Rattle.trace.proofs.text.spaces.Lts as lts
-use Rattle.trace.proofs.text.byte.Reads as byte-reads
 
 abbrev Inv-loop : tie.InvT-loop
 Inv-loop out₀ at from to k₀ i₀ out k i = length out ≡ length out₀

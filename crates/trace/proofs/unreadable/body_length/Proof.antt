@@ -2,9 +2,6 @@ use Prim.Native.Nat.{_-_}
 use borrow.Author.Needs.{needs}
 use Rattle.trace.proofs.unreadable.body_length.Statement.{statement}
 use Rattle.trace.proofs.unreadable.body_length.Tie as tie
-use Rattle.trace.proofs.unreadable.body_length.Reads as reads
-use Rattle.trace.proofs.unreadable.body_length.Lts as lts
-use Rattle.trace.proofs.unreadable.if_takes.Reads as if-takes-reads
 
 abbrev Inv-loop : tie.InvT-loop
 Inv-loop tag n₀ i₀ n i = Unit {0}

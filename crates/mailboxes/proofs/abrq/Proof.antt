@@ -1,0 +1,18 @@
+use borrow.Author.Needs.{needs}
+use Rattle.mailboxes.proofs.abrq.Statement.{statement}
+use Rattle.mailboxes.proofs.abrq.Tie as tie
+
+bit-requires : tie.Need-bit-requires
+bit-requires c κs = search needs
+
+bit-requires-2 : tie.Need-bit-requires-2
+bit-requires-2 c κs = search needs
+
+bit-requires-3 : tie.Need-bit-requires-3
+bit-requires-3 c κs = search needs
+
+returns : tie.Need-returns
+returns c = simp (c .bit3 .ensures, c .before .bit2 .ensures, c .before .before .bit .ensures)
+
+pub abrq-spec : {M : Type 1} → statement M
+abrq-spec = tie.close (tie.spec bit-requires bit-requires-2 bit-requires-3 returns)

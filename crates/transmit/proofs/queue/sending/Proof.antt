@@ -1,9 +1,0 @@
-use borrow.Author.Needs.{needs}
-use Rattle.transmit.proofs.queue.sending.Statement.{statement}
-use Rattle.transmit.proofs.queue.sending.Tie as tie
-
-returns : tie.Need-returns
-returns c = search needs
-
-pub sending-spec : {M : Type 1} → statement M
-sending-spec = tie.close (tie.spec returns)
