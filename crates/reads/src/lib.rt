@@ -60,7 +60,7 @@ fn read_word(g: Register, c: Core, banks: &[u32; 28]) -> u32
             let s = q.transmitting;
             control::msr_word(k, queue::is_nobody(s))
         }
-        Register::Tsr => priority::tsr::tsr(bits::bit(2, k.mcr), t),
+        Register::Tsr => priority::tsr::tsr(control::txfp(k), t),
         Register::Rfr(x) => receive::rfr_word(fifo_of(x, c)),
         Register::Ier => k.ier,
         Register::Esr => {
@@ -131,7 +131,7 @@ pub fn word_at(c: Core, banks: &[u32; 28], e: Step, g: Register, code: u8) -> u3
             let q = c.transmit.queue;
             let o = q.order;
             let i = priority::identifiers(b);
-            queue::sender_number(priority::first(bits::bit(2, k.mcr), i, o))
+            queue::sender_number(priority::first(control::txfp(k), i, o))
         }
         Step::Outcome(_) => 0,
         Step::Receive(_) => 0,

@@ -36,14 +36,14 @@ pub fn may_start(c: Core) -> bool
         & !control::boff(e)
         & is_free(c)
         & !queue::is_empty(o)
-        & !(bits::bit(31, k.btr) & !bits::bit(30, k.btr))
+        & !(control::silm(k) & !control::lbkm(k))
 }
 
 pub fn may_end(c: Core, r: u8) -> bool
     ensures { λ a. ⌜ a ≡ stepping.mayEnd c r ⌝ }
 {
     let k = c.control;
-    !is_free(c) & !((r == 3) & bits::bit(30, k.btr))
+    !is_free(c) & !((r == 3) & control::lbkm(k))
 }
 
 pub fn may_receive(c: Core) -> bool
@@ -53,7 +53,7 @@ pub fn may_receive(c: Core) -> bool
     let m = k.mode;
     let e = c.errors;
     let g = c.filters;
-    control::is_normal(m) & !control::boff(e) & is_free(c) & !bits::bit(30, k.btr) & !g.finit
+    control::is_normal(m) & !control::boff(e) & is_free(c) & !control::lbkm(k) & !g.finit
 }
 
 pub fn fault_in_range(k: u8, n: u8) -> bool

@@ -1,4 +1,4 @@
-// Bench scripts: one record read from a place, its reply, and the replay of a whole script.
+// Bench scripts: one record, its reply, and the replay of a whole script.
 ghost use mathlib.Core.Path.{_≡_};
 ghost use mathlib.Core.List.{[]};
 ghost use Prim.Native.Nat.{_≤_};
@@ -13,63 +13,6 @@ use model::Reading;
 use model::Replay;
 use model::Replayed;
 use model::Step;
-
-mod decode;
-
-// ---- reading
-
-fn is_tag(tag: u8) -> bool
-    ensures { λ r. ⌜ r ≡ scripts.isTag tag ⌝ }
-{
-    (1 <= tag) & (tag <= 10)
-}
-
-// The length of the body that a tag has.
-fn body_length(tag: u8) -> usize
-    ensures { λ r. ⌜ r ≡ scripts.bodyLength tag ⌝ }
-{
-    match tag {
-        2 => 2,
-        3 => 6,
-        5 => 2,
-        8 => 1,
-        9 => 13,
-        10 => 2,
-        _ => 0,
-    }
-}
-
-// The record that begins at a place. The body is handed on as the part of the script where it lies.
-pub fn reading(script: &[u8], place: usize) -> Reading
-    ensures { λ r. ⌜ r ≡ scripts.reading (now (script .entry)) place ⌝ }
-{
-    let n = script.len();
-    if n <= place {
-        return Reading::End;
-    }
-    let left = n - place;
-    if left < 3 {
-        return Reading::Malformed(6);
-    }
-    let tag = script[place];
-    if !is_tag(tag) {
-        return Reading::Malformed(7);
-    }
-    let i = place + 1;
-    let j = i + 1;
-    let length = decode::pair(script[i], script[j]) as usize;
-    let body = body_length(tag);
-    if length != body {
-        return Reading::Malformed(8);
-    }
-    let whole = 3 + body;
-    if left < whole {
-        return Reading::Malformed(6);
-    }
-    let a = place + 3;
-    let b = a + body;
-    Reading::Found(decode::decoded(tag, &script[a..b]), b)
-}
 
 // ---- one record
 
@@ -169,7 +112,7 @@ pub fn replayed(z: Controller, script: &[u8], place: usize, reply: &mut [u8]) ->
     ensures { λ r. ⌜ r ≡ scripts.recordAt z (now (script .entry)) place (length (now (reply .entry))) ⌝ }
     ensures { λ r. ⌜ now (reply .exit) ≡ scripts.overwritten (scripts.replyOf r) (now (reply .entry)) ⌝ }
 {
-    let x = answerable(reading(script, place), reply.len());
+    let x = answerable(records::reading(script, place), reply.len());
     let a = controller::step(z, step_of(x));
     let d = a.controller;
     let code = code_of(x, a.code);

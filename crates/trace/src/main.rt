@@ -1,16 +1,14 @@
 // A bench script told in words: a line for each record with the step, its answer, the interrupt lines that are up and
 // what it changed. The script comes on standard input, the text goes to standard output; both go in pieces.
-ghost use Prim.Native.Nat.{_+_, _≤_};
-ghost use lib.ListN.{length};
 use changes::Taken;
 use changes::View;
 use libc::STDERR_FILENO;
-use libc::STDIN_FILENO;
 use libc::STDOUT_FILENO;
 use model::Controller;
 use model::Reading;
 use model::Step;
 use names::Place;
+use stream::least;
 use text::byte;
 use text::column;
 use text::put;
@@ -136,15 +134,6 @@ struct Progress {
     input: Input,
 }
 
-fn least(a: usize, b: usize) -> usize
-    ensures { λ r. ⌜ (r ≤ a) × (r ≤ b) ⌝ }
-{
-    if a < b {
-        return a;
-    }
-    b
-}
-
 fn complain(text: &[u8]) {
     io::write_all(STDERR_FILENO, text);
 }
@@ -159,38 +148,6 @@ fn complain_if(b: bool, text: &[u8]) {
 fn sent(out: &[u8], text: usize) -> bool {
     let n = least(text, out.len());
     io::write_all(STDOUT_FILENO, &out[0..n])
-}
-
-// Moves n bytes from a place to the start of the input.
-fn moved(input: &mut [u8], place: usize, n: usize)
-    requires { ⌜ place + n ≤ length (now input) ⌝ }
-{
-    for i in 0..n {
-        let j = place + i;
-        input[i] = input[j];
-    }
-}
-
-fn read_some(input: &mut [u8], rest: usize) -> Input {
-    let k = least(rest, input.len());
-    let got = libc::read(STDIN_FILENO, &mut input[k..]);
-    let n = io::count(got, &input[k..]);
-    complain_if(got < 0, b"trace: standard input can't be read\n");
-    Input {
-        place: 0,
-        filled: std::num::wrapping_add_usize(k, n),
-        ended: n == 0,
-        failed: got < 0,
-    }
-}
-
-// What is not used yet goes to the start of the input, and more is read behind it.
-fn read_on(input: &mut [u8], place: usize, filled: usize) -> Input
-    requires { ⌜ (place ≤ filled) × (filled ≤ length (now input)) ⌝ }
-{
-    let rest = filled - place;
-    moved(input, place, rest);
-    read_some(input, rest)
 }
 
 // ---- a turn of the loop
@@ -213,7 +170,7 @@ fn flushed(p: Progress, out: &[u8]) -> Progress {
 }
 
 fn next_turn(rest: &[u8]) -> Turn {
-    let x = script::reading(rest, 0);
+    let x = records::reading(rest, 0);
     match x {
         Reading::End => Turn::Ends,
         Reading::Malformed(k) => Turn::Stops(unreadable::fault_in(k, rest)),
@@ -221,10 +178,16 @@ fn next_turn(rest: &[u8]) -> Turn {
     }
 }
 
-fn read_turn(p: Progress, input: &mut [u8], place: usize, filled: usize) -> Progress
-    requires { ⌜ (place ≤ filled) × (filled ≤ length (now input)) ⌝ }
-{
-    let i = read_on(input, place, filled);
+// What is not used yet goes to the start of the input, and more is read behind it.
+fn read_on(p: Progress, input: &mut [u8], place: usize, filled: usize) -> Progress {
+    let f = stream::refilled(input, place, filled);
+    complain_if(f.failed, b"trace: standard input can't be read\n");
+    let i = Input {
+        place: 0,
+        filled: f.length,
+        ended: f.ended | f.failed,
+        failed: f.failed,
+    };
     let mut q = p;
     q.input = i;
     q
@@ -244,7 +207,7 @@ fn turn_of(p: Progress, input: &mut [u8], out: &[u8]) -> Turned {
     }
     if wants {
         return Turned {
-            progress: read_turn(p, input, place, filled),
+            progress: read_on(p, input, place, filled),
             turn: Turn::Waits,
         };
     }

@@ -34,7 +34,7 @@ fn takes(tag: u8, n: u8) -> bool {
     let mut record = [0u8; 16];
     record[0] = tag;
     record[1] = n;
-    let x = script::reading(&record, 0);
+    let x = records::reading(&record, 0);
     match x {
         Reading::End => false,
         Reading::Malformed(_) => false,

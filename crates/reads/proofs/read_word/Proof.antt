@@ -18,8 +18,8 @@ msr-word-requires c κs = search needs
 enum-told-3 : tie.Need-enum-told-3
 enum-told-3 c = search needs
 
-bit-requires : tie.Need-bit-requires
-bit-requires c κs = search needs
+txfp-requires : tie.Need-txfp-requires
+txfp-requires c κs = search needs
 
 tsr-requires : tie.Need-tsr-requires
 tsr-requires c κs = search needs
@@ -139,7 +139,7 @@ returns-2 c = simp (c .msr-word .ensures, c .before .is-nobody .ensures, c .befo
 
 returns-3 : tie.Need-returns-3
 unfolding readWord
-returns-3 c = simp (c .tsr .ensures, c .before .bit .ensures, c .before .before .enum-told3 .given .1)
+returns-3 c = simp (c .tsr .ensures, c .before .txfp .ensures, c .before .before .enum-told3 .given .1)
 
 returns-4 : tie.Need-returns-4
 unfolding readWord
@@ -230,7 +230,7 @@ read-word-spec =
     is-nobody-requires
     msr-word-requires
     enum-told-3
-    bit-requires
+    txfp-requires
     tsr-requires
     enum-known-g
     fifo-of-requires

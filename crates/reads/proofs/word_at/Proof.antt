@@ -36,8 +36,8 @@ enum-told-7 c = search needs
 identifiers-requires : tie.Need-identifiers-requires
 identifiers-requires c κs = search needs
 
-bit-requires : tie.Need-bit-requires
-bit-requires c κs = search needs
+txfp-requires : tie.Need-txfp-requires
+txfp-requires c κs = search needs
 
 first-requires : tie.Need-first-requires
 first-requires c κs = search needs
@@ -80,7 +80,7 @@ returns-7 c = simp (c .enum-told6 .given .1, eq-eqb _ _ (c .before .before .if1 
 
 returns-8 : tie.Need-returns-8
 unfolding wordAt wordOf
-returns-8 c = simp (c .sender-number .ensures, c .before .first .ensures, c .before .before .bit .ensures, c .before .before .before .identifiers .ensures, c .before .before .before .before .before .before .before .enum-told7 .given .1, eq-eqb _ _ (c .before .before .before .before .before .before .before .before .before .if1 .left))
+returns-8 c = simp (c .sender-number .ensures, c .before .first .ensures, c .before .before .txfp .ensures, c .before .before .before .identifiers .ensures, c .before .before .before .before .before .before .before .enum-told7 .given .1, eq-eqb _ _ (c .before .before .before .before .before .before .before .before .before .if1 .left))
 
 returns-9 : tie.Need-returns-9
 unfolding wordAt wordOf
@@ -108,7 +108,7 @@ word-at-spec =
     enum-told-6
     enum-told-7
     identifiers-requires
-    bit-requires
+    txfp-requires
     first-requires
     sender-number-requires
     enum-told-8

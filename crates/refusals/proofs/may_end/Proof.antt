@@ -6,12 +6,12 @@ use Rattle.refusals.proofs.may_end.Tie as tie
 is-free-requires : tie.Need-is-free-requires
 is-free-requires c κs = search needs
 
-bit-requires : tie.Need-bit-requires
-bit-requires c κs = search needs
+lbkm-requires : tie.Need-lbkm-requires
+lbkm-requires c κs = search needs
 
 returns : tie.Need-returns
 unfolding mayEnd
-returns c = simp (c .bit .ensures, c .before .is-free .ensures)
+returns c = simp (c .lbkm .ensures, c .before .is-free .ensures)
 
 pub may-end-spec : {M : Type 1} → statement M
-may-end-spec = tie.close (tie.spec is-free-requires bit-requires returns)
+may-end-spec = tie.close (tie.spec is-free-requires lbkm-requires returns)

@@ -12,13 +12,13 @@ boff-requires c κs = search needs
 is-free-requires : tie.Need-is-free-requires
 is-free-requires c κs = search needs
 
-bit-requires : tie.Need-bit-requires
-bit-requires c κs = search needs
+lbkm-requires : tie.Need-lbkm-requires
+lbkm-requires c κs = search needs
 
 returns : tie.Need-returns
 unfolding mayReceive
-returns c = simp (c .before .bit .ensures, c .before .before .is-free .ensures, c .before .before .before .boff .ensures, c .before .before .before .before .is-normal .ensures)
+returns c = simp (c .before .lbkm .ensures, c .before .before .is-free .ensures, c .before .before .before .boff .ensures, c .before .before .before .before .is-normal .ensures)
 
 pub may-receive-spec : {M : Type 1} → statement M
 may-receive-spec =
-    tie.close (tie.spec is-normal-requires boff-requires is-free-requires bit-requires returns)
+    tie.close (tie.spec is-normal-requires boff-requires is-free-requires lbkm-requires returns)

@@ -15,15 +15,15 @@ is-free-requires c κs = search needs
 is-empty-requires : tie.Need-is-empty-requires
 is-empty-requires c κs = search needs
 
-bit-requires : tie.Need-bit-requires
-bit-requires c κs = search needs
+silm-requires : tie.Need-silm-requires
+silm-requires c κs = search needs
 
-bit-requires-2 : tie.Need-bit-requires-2
-bit-requires-2 c κs = search needs
+lbkm-requires : tie.Need-lbkm-requires
+lbkm-requires c κs = search needs
 
 returns : tie.Need-returns
 unfolding mayStart
-returns c = simp (c .bit2 .ensures, c .before .bit .ensures, c .before .before .is-empty .ensures, c .before .before .before .is-free .ensures, c .before .before .before .before .boff .ensures, c .before .before .before .before .before .is-normal .ensures)
+returns c = simp (c .lbkm .ensures, c .before .silm .ensures, c .before .before .is-empty .ensures, c .before .before .before .is-free .ensures, c .before .before .before .before .boff .ensures, c .before .before .before .before .before .is-normal .ensures)
 
 pub may-start-spec : {M : Type 1} → statement M
 may-start-spec =
@@ -33,6 +33,6 @@ may-start-spec =
     boff-requires
     is-free-requires
     is-empty-requires
-    bit-requires
-    bit-requires-2
+    silm-requires
+    lbkm-requires
     returns)

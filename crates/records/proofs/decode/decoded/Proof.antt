@@ -2,11 +2,11 @@
 use mathlib.Core.Path.{_≡_}
 use native.Mathlib.Nat.{le-antisymm}
 use Rattle.model.specs.Script.{bodyLength, decoded}
-use Rattle.script.proofs.Bodies.{fits, tag-range, past}
+use Rattle.records.proofs.Bodies.{fits, tag-range, past}
 use borrow.Author.Tests.{ne-eqb}
 use borrow.Author.Needs.{needs}
-use Rattle.script.proofs.decode.decoded.Statement.{statement}
-use Rattle.script.proofs.decode.decoded.Tie as tie
+use Rattle.records.proofs.decode.decoded.Statement.{statement}
+use Rattle.records.proofs.decode.decoded.Tie as tie
 
 read-step-requires : tie.Need-read-step-requires
 unfolding bodyLength

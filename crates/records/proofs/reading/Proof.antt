@@ -5,8 +5,8 @@ use lib.ListN.{length-take, length-drop}
 use Rattle.model.specs.Script.{reading}
 use borrow.Author.Tests.{not-false, eq-eqb, ne-eqb, lt-ltb, le-ltb, le-leb, lt-leb}
 use borrow.Author.Needs.{needs}
-use Rattle.script.proofs.reading.Statement.{statement}
-use Rattle.script.proofs.reading.Tie as tie
+use Rattle.records.proofs.reading.Statement.{statement}
+use Rattle.records.proofs.reading.Tie as tie
 
 returns : tie.Need-returns
 unfolding reading

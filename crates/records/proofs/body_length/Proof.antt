@@ -1,8 +1,8 @@
 -- A number match on the tag, as the definition chooses.
 use Rattle.model.specs.Script.{bodyLength}
 use borrow.Author.Tests.{ne-eqb}
-use Rattle.script.proofs.body_length.Statement.{statement}
-use Rattle.script.proofs.body_length.Tie as tie
+use Rattle.records.proofs.body_length.Statement.{statement}
+use Rattle.records.proofs.body_length.Tie as tie
 
 returns : tie.Need-returns
 unfolding bodyLength

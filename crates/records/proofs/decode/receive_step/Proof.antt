@@ -1,7 +1,7 @@
 -- The frame field by field.
 use borrow.Author.Needs.{needs}
-use Rattle.script.proofs.decode.receive_step.Statement.{statement}
-use Rattle.script.proofs.decode.receive_step.Tie as tie
+use Rattle.records.proofs.decode.receive_step.Statement.{statement}
+use Rattle.records.proofs.decode.receive_step.Tie as tie
 
 number32-requires : tie.Need-number32-requires
 number32-requires c κs = search needs
