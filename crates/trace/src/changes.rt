@@ -1,5 +1,6 @@
 // What a step changed: the mailboxes, the FIFOs, the error state, the mode. Each item after the first has a comma in front;
 // `start` is the place of the first.
+use super::text::Line;
 use super::text::fields;
 use super::text::said;
 use model::Acceptance;
@@ -108,28 +109,18 @@ pub(crate) fn taken_by(z: Controller, e: Step, code: u8) -> Taken {
 // ---- items
 
 // An item, where old and new differ: a part of the table with a number, and flags of the new word.
-fn change(
-    out: &mut [u8],
-    at: usize,
-    start: usize,
-    which: u32,
-    n: u32,
-    old: u32,
-    new: u32,
-) -> usize {
+fn change(l: Line, start: usize, which: u32, n: u32, old: u32, new: u32) -> Line {
     if old == new {
-        return at;
+        return l;
     }
-    let a = said(out, at, b"|, ", bits::one(start < at), 0);
+    let a = said(l, b"|, ", bits::one(start < l.at), 0);
     let b = said(
-        out,
         a,
         b"mailbox % empty|mailbox % pending|mailbox % on the wire|FIFO0 %/3|FIFO1 %/3|TEC %|REC %|recovery %/128|timer %|mode Normal|mode Initialization|mode Sleep|error active|error warning|error passive|bus-off|flags none|flags",
         which,
         n as u64,
     );
     fields(
-        out,
         b,
         b"|||..- FULL OVR|..- FULL OVR|||||||||||||ERRI WKUI SLAKI",
         which,
@@ -148,43 +139,43 @@ fn error_state(new: u32) -> u32 {
     }
 }
 
-fn errors(out: &mut [u8], at: usize, start: usize, old: View, new: View) -> usize {
-    let a = change(out, at, start, 5, new.tec, old.tec, new.tec);
-    let b = change(out, a, start, 6, new.rec, old.rec, new.rec);
+fn errors(l: Line, start: usize, old: View, new: View) -> Line {
+    let a = change(l, start, 5, new.tec, old.tec, new.tec);
+    let b = change(a, start, 6, new.rec, old.rec, new.rec);
     let k = error_state(new.errors);
-    let c = change(out, b, start, k, 0, old.errors, new.errors);
-    change(out, c, start, 7, new.recovery, old.recovery, new.recovery)
+    let c = change(b, start, k, 0, old.errors, new.errors);
+    change(c, start, 7, new.recovery, old.recovery, new.recovery)
 }
 
-fn modes(out: &mut [u8], at: usize, start: usize, old: View, new: View) -> usize {
+fn modes(l: Line, start: usize, old: View, new: View) -> Line {
     let k = std::num::wrapping_add_u32(9, new.mode);
-    let a = change(out, at, start, k, 0, old.mode, new.mode);
+    let a = change(l, start, k, 0, old.mode, new.mode);
     let m = bits::pick_u32(new.flags == 0, 16, 17);
-    let b = change(out, a, start, m, 0, old.flags, new.flags);
-    change(out, b, start, 8, new.timer, old.timer, new.timer)
+    let b = change(a, start, m, 0, old.flags, new.flags);
+    change(b, start, 8, new.timer, old.timer, new.timer)
 }
 
-fn mailboxes(out: &mut [u8], at: usize, start: usize, old: View, new: View) -> usize {
-    let a = change(out, at, start, new.m0, 0, old.m0, new.m0);
-    let b = change(out, a, start, new.m1, 1, old.m1, new.m1);
-    change(out, b, start, new.m2, 2, old.m2, new.m2)
+fn mailboxes(l: Line, start: usize, old: View, new: View) -> Line {
+    let a = change(l, start, new.m0, 0, old.m0, new.m0);
+    let b = change(a, start, new.m1, 1, old.m1, new.m1);
+    change(b, start, new.m2, 2, old.m2, new.m2)
 }
 
-fn messages(out: &mut [u8], at: usize, start: usize, old: View, new: View) -> usize {
-    let a = mailboxes(out, at, start, old, new);
-    let b = change(out, a, start, 3, new.rf0r % 4, old.rf0r, new.rf0r);
-    change(out, b, start, 4, new.rf1r % 4, old.rf1r, new.rf1r)
+fn messages(l: Line, start: usize, old: View, new: View) -> Line {
+    let a = mailboxes(l, start, old, new);
+    let b = change(a, start, 3, new.rf0r % 4, old.rf0r, new.rf0r);
+    change(b, start, 4, new.rf1r % 4, old.rf1r, new.rf1r)
 }
 
-pub(crate) fn told(out: &mut [u8], start: usize, t: Taken, old: View, new: View) -> usize {
+pub(crate) fn told(l: Line, t: Taken, old: View, new: View) -> Line {
+    let start = l.at;
     let a = said(
-        out,
-        start,
+        l,
         b"|no filter takes it|filter % of FIFO0|filter % of FIFO1",
         t.by,
         t.filter as u64,
     );
-    let b = messages(out, a, start, old, new);
-    let c = errors(out, b, start, old, new);
-    modes(out, c, start, old, new)
+    let b = messages(a, start, old, new);
+    let c = errors(b, start, old, new);
+    modes(c, start, old, new)
 }

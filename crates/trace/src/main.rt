@@ -9,6 +9,7 @@ use model::Reading;
 use model::Step;
 use names::Place;
 use stream::least;
+use text::Line;
 use text::byte;
 use text::column;
 use text::put;
@@ -60,56 +61,48 @@ struct Account {
 // ---- a line
 
 // The word of a read, the mailbox of a start, or nothing to say.
-fn done(out: &mut [u8], at: usize, e: Step, g: Place, word: u32) -> usize {
+fn done(l: Line, e: Step, g: Place, word: u32) -> Line {
     match e {
-        Step::Read(_) => {
-            let a = text::hex(out, at, word, 8);
-            names::fields(out, a, g, word)
-        }
-        Step::Start => said(out, at, b"mailbox %", 0, word as u64),
-        _ => byte(out, at, b'-'),
+        Step::Read(_) => names::fields(text::hex(l, word, 8), g, word),
+        Step::Start => said(l, b"mailbox %", 0, word as u64),
+        _ => byte(l, b'-'),
     }
 }
 
 // The interrupt lines that are up.
-fn lines(out: &mut [u8], at: usize, up: u8) -> usize {
-    let a = column(out, at, LINES_COLUMN - 1);
+fn lines(l: Line, up: u8) -> Line {
+    let a = column(l, LINES_COLUMN - 1);
     if up == 0 {
-        return put(out, a, b" -");
+        return put(a, b" -");
     }
-    text::fields(out, a, b"TX FIFO0 FIFO1 SCE", 0, up as u32, 0)
+    text::fields(a, b"TX FIFO0 FIFO1 SCE", 0, up as u32, 0)
 }
 
-fn changed(out: &mut [u8], at: usize, t: Taken, old: View, new: View) -> usize {
-    let start = column(out, at, CHANGED_COLUMN);
-    let a = changes::told(out, start, t, old, new);
-    if start < a {
-        return a;
+fn changed(l: Line, t: Taken, old: View, new: View) -> Line {
+    let a = column(l, CHANGED_COLUMN);
+    let b = changes::told(a, t, old, new);
+    if a.at < b.at {
+        return b;
     }
-    at
+    l
 }
 
-fn answered(out: &mut [u8], at: usize, e: Step, g: Place, a: Account) -> usize {
-    let t = a.taken;
+fn answered(l: Line, e: Step, g: Place, a: Account) -> Line {
     let v = a.old;
-    let w = a.new;
     if a.code != 0 {
-        let b = reasons::told(out, at, a.code, v, e, g);
-        return lines(out, b, a.lines);
+        return lines(reasons::told(l, a.code, v, e, g), a.lines);
     }
-    let c = done(out, at, e, g, a.word);
-    let d = lines(out, c, a.lines);
-    changed(out, d, t, v, w)
+    let d = lines(done(l, e, g, a.word), a.lines);
+    let t = a.taken;
+    let w = a.new;
+    changed(d, t, v, w)
 }
 
-fn line(out: &mut [u8], n: u64, e: Step, a: Account) -> usize {
+fn line(n: u64, e: Step, a: Account) -> Line {
     let g = names::of_step(e);
-    let b = text::right(out, n, NUMBER_WIDTH);
-    let c = put(out, b, b"  ");
-    let d = steps::told(out, c, e, g);
-    let f = column(out, d, ANSWER_COLUMN);
-    let h = answered(out, f, e, g, a);
-    byte(out, h, b'\n')
+    let b = put(text::right(text::empty(), n, NUMBER_WIDTH), b"  ");
+    let c = column(steps::told(b, e, g), ANSWER_COLUMN);
+    byte(answered(c, e, g, a), b'\n')
 }
 
 // ---- input and output
@@ -136,6 +129,12 @@ struct Progress {
 
 fn complain(text: &[u8]) {
     io::write_all(STDERR_FILENO, text);
+}
+
+// The first n bytes.
+fn complain_first(text: &[u8], n: usize) {
+    let k = least(n, text.len());
+    complain(&text[0..k]);
 }
 
 fn complain_if(b: bool, text: &[u8]) {
@@ -219,15 +218,19 @@ fn turn_of(p: Progress, input: &mut [u8], out: &[u8]) -> Turned {
 
 // ---- the text of a turn
 
-fn traced(p: Progress, e: Step, q: usize, a: Account, out: &mut [u8]) -> Progress {
-    let n = std::num::wrapping_add_u64(p.records, 1);
-    let k = line(out, n, e, a);
+// How far the trace is after a turn, and the text of the turn, which is not counted yet.
+struct Report {
+    progress: Progress,
+    line: Line,
+}
+
+fn traced(p: Progress, q: usize, a: Account) -> Progress {
     let i = p.input;
     Progress {
-        records: n,
+        records: std::num::wrapping_add_u64(p.records, 1),
         refused: std::num::wrapping_add_u64(p.refused, bits::one(a.code != 0) as u64),
         bytes: std::num::wrapping_add_u64(p.bytes, q as u64),
-        text: std::num::wrapping_add_usize(p.text, k),
+        text: p.text,
         lines: a.lines,
         going: true,
         input: Input {
@@ -239,72 +242,75 @@ fn traced(p: Progress, e: Step, q: usize, a: Account, out: &mut [u8]) -> Progres
     }
 }
 
-// The last line; `out` has text up to `at` that is not counted yet.
-fn stop(p: Progress, out: &mut [u8], at: usize, why: u32) -> Progress {
+// The last line, behind a line that is begun.
+fn stop(p: Progress, l: Line, why: u32) -> Report {
     let a = said(
-        out,
-        at,
+        l,
         b"stopped at byte %: |end of the script at byte %: |standard input can't be read on, stopped at byte %: ",
         why,
         p.bytes,
     );
-    let b = said(out, a, b"% records, ", 0, p.records);
-    let n = said(out, b, b"% refused\n", 0, p.refused);
+    let b = said(a, b"% records, ", 0, p.records);
     let mut q = p;
-    q.text = std::num::wrapping_add_usize(p.text, n);
     q.going = false;
-    q
+    Report {
+        progress: q,
+        line: said(b, b"% refused\n", 0, p.refused),
+    }
 }
 
-fn complain_of(out: &mut [u8], n: u64, place: u64, f: Fault) {
-    let a = said(out, 0, b"trace: record %", 0, n);
-    let b = said(out, a, b" at byte %: ", 0, place);
-    let c = unreadable::told(out, b, f);
-    let k = least(byte(out, c, b'\n'), out.len());
-    complain(&out[0..k]);
+fn complain_of(n: u64, place: u64, f: Fault) {
+    let a = said(text::empty(), b"trace: record %", 0, n);
+    let b = said(a, b" at byte %: ", 0, place);
+    let c = byte(unreadable::told(b, f), b'\n');
+    let bytes = c.bytes;
+    complain_first(&bytes, c.at);
 }
 
-fn unread_line(out: &mut [u8], n: u64, place: u64, f: Fault, up: u8) -> usize {
-    let a = text::right(out, n, NUMBER_WIDTH);
-    let b = said(out, a, b"  can't be read, at byte %", 0, place);
-    let c = column(out, b, ANSWER_COLUMN);
-    let d = unreadable::told(out, c, f);
-    let e = lines(out, d, up);
-    byte(out, e, b'\n')
+fn unread_line(n: u64, place: u64, f: Fault, up: u8) -> Line {
+    let a = text::right(text::empty(), n, NUMBER_WIDTH);
+    let b = said(a, b"  can't be read, at byte %", 0, place);
+    let c = unreadable::told(column(b, ANSWER_COLUMN), f);
+    byte(lines(c, up), b'\n')
 }
 
 // A record that can't be read; where reading failed the script may just break off inside it.
-fn unread(p: Progress, failed: bool, f: Fault, out: &mut [u8]) -> Progress {
+fn unread(p: Progress, failed: bool, f: Fault) -> Report {
     if failed & (f.code == 6) {
-        return stop(p, out, 0, 2);
+        return stop(p, text::empty(), 2);
     }
     let n = std::num::wrapping_add_u64(p.records, 1);
-    let mut space = [0u8; 256];
-    complain_of(&mut space, n, p.bytes, f);
-    let k = unread_line(out, n, p.bytes, f, p.lines);
-    stop(p, out, k, 0)
+    complain_of(n, p.bytes, f);
+    stop(p, unread_line(n, p.bytes, f, p.lines), 0)
 }
 
-fn told(p: Progress, t: Turn, out: &mut [u8]) -> Progress {
+fn told(p: Progress, t: Turn) -> Report {
     let i = p.input;
     match t {
-        Turn::Ends => stop(p, out, 0, bits::pick_u32(i.failed, 2, 1)),
-        Turn::Stops(f) => unread(p, i.failed, f, out),
-        _ => p,
+        Turn::Ends => stop(p, text::empty(), bits::pick_u32(i.failed, 2, 1)),
+        Turn::Stops(f) => unread(p, i.failed, f),
+        _ => Report {
+            progress: p,
+            line: text::empty(),
+        },
     }
 }
 
-fn begun(out: &mut [u8]) -> Progress {
-    let k = put(
-        out,
-        0,
+// ---- the program
+
+fn head() -> Line {
+    put(
+        text::empty(),
         b" record  step                                                answer                                    lines               changed\n      0  power on                                            -                                         -                   mode Sleep, error active, mailboxes and FIFOs empty\n",
-    );
+    )
+}
+
+fn begun() -> Progress {
     Progress {
         records: 0,
         refused: 0,
         bytes: 0,
-        text: k,
+        text: 0,
         lines: 0,
         going: true,
         input: Input {
@@ -318,10 +324,10 @@ fn begun(out: &mut [u8]) -> Progress {
 
 struct State {
     controller: Controller,
-    progress: Progress,
+    report: Report,
 }
 
-fn stepped(z: Controller, p: Progress, e: Step, q: usize, out: &mut [u8]) -> State {
+fn stepped(z: Controller, p: Progress, e: Step, q: usize) -> State {
     let c = z.core;
     let a = controller::step(z, e);
     let next = a.controller;
@@ -334,34 +340,68 @@ fn stepped(z: Controller, p: Progress, e: Step, q: usize, out: &mut [u8]) -> Sta
         old: changes::view_of(c),
         new: changes::view_of(d),
     };
+    let r = traced(p, q, x);
     State {
         controller: next,
-        progress: traced(p, e, q, x, out),
+        report: Report {
+            progress: r,
+            line: line(r.records, e, x),
+        },
     }
 }
 
-fn round(s: State, input: &mut [u8], out: &mut [u8]) -> State {
-    let z = s.controller;
+fn taken_turn(z: Controller, p: Progress, t: Turn) -> State {
+    match t {
+        Turn::Steps(e, k) => stepped(z, p, e, k),
+        _ => State {
+            controller: z,
+            report: told(p, t),
+        },
+    }
+}
+
+// The text goes behind the text that waits.
+fn stored(t: Report, out: &mut [u8]) -> Progress {
+    let p = t.progress;
+    let l = t.line;
+    let from = least(p.text, out.len());
+    let mut q = p;
+    q.text = std::num::wrapping_add_usize(from, text::copied(l, &mut out[from..]));
+    q
+}
+
+struct Session {
+    controller: Controller,
+    progress: Progress,
+}
+
+fn round(s: Session, input: &mut [u8], out: &mut [u8]) -> Session {
     let p = s.progress;
     let u = turn_of(p, input, out);
     let t = u.turn;
     let q = u.progress;
-    let m = least(q.text, out.len());
-    match t {
-        Turn::Steps(e, k) => stepped(z, q, e, k, &mut out[m..]),
-        _ => State {
-            controller: z,
-            progress: told(q, t, &mut out[m..]),
-        },
+    let z = s.controller;
+    let r = taken_turn(z, q, t);
+    let next = r.controller;
+    let report = r.report;
+    Session {
+        controller: next,
+        progress: stored(report, out),
     }
 }
 
 // A loop that is proved has to end, and nothing says that the input does: the turns are counted down from a number that
 // no run uses up.
 fn run(input: &mut [u8], out: &mut [u8]) {
-    let mut s = State {
+    let mut s = Session {
         controller: controller::reset(),
-        progress: begun(out),
+        progress: stored(
+            Report {
+                progress: begun(),
+                line: head(),
+            },
+            out,
+        ),
     };
     let mut turns = u64::MAX;
     while 0 < turns && s.progress.going {

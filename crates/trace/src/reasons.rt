@@ -8,6 +8,7 @@ use super::names::FMR;
 use super::names::Place;
 use super::names::RI;
 use super::names::TI;
+use super::text::Line;
 use super::text::said;
 use model::Frame;
 use model::Step;
@@ -149,10 +150,9 @@ fn of_step(v: View, e: Step, kind: u32) -> u32 {
     }
 }
 
-pub(crate) fn told(out: &mut [u8], at: usize, code: u8, v: View, e: Step, g: Place) -> usize {
-    let a = said(out, at, b"refused %: ", 0, code as u64);
+pub(crate) fn told(l: Line, code: u8, v: View, e: Step, g: Place) -> Line {
+    let a = said(l, b"refused %: ", 0, code as u64);
     said(
-        out,
         a,
         b"offset isn't a multiple of 4|no register has this offset|a receive mailbox is read only|BTR needs Initialization mode|mailbox % isn't empty|FM1R needs FINIT=1|FS1R needs FINIT=1|FFA1R needs FINIT=1|bank % is active, FINIT=0|bit times are 1 to 65535|the result is over 7|bit 0 of the identifier word|standard with extended bits|length code over 15|error code isn't 1 to 6|REC goes up by 1 or 8|own frame on the wire|not in Sleep mode|not in Normal mode|bus-off|no request is pending|silent mode (SILM=1)|no frame on the wire|loopback needs no acknowledgment|loopback mode (LBKM=1)|filters not in use (FINIT=1)|",
         of_step(v, e, g.kind),

@@ -1,50 +1,86 @@
-// Text put into a lent row of bytes. Each function writes from a place on and gives the place behind what it wrote.
-// A byte for which there is no room is left out; `main` sees that there is always room for a line.
+// A line of text, by value. Each function adds to the line; a byte for which there is no room is left out, and the
+// longest line leaves room.
 
-pub(crate) fn byte(out: &mut [u8], at: usize, b: u8) -> usize {
-    if at < out.len() {
-        out[at] = b;
-        return at + 1;
-    }
-    at
+const ROOM: usize = 512;
+
+pub(crate) struct Line {
+    pub(crate) bytes: [u8; ROOM],
+    pub(crate) at: usize,
 }
 
-pub(crate) fn put(out: &mut [u8], at: usize, text: &[u8]) -> usize {
-    let mut k = at;
+pub(crate) fn empty() -> Line {
+    Line {
+        bytes: [0; ROOM],
+        at: 0,
+    }
+}
+
+pub(crate) fn byte(l: Line, b: u8) -> Line {
+    let mut m = l;
+    let at = l.at;
+    if at < ROOM {
+        m.bytes[at] = b;
+        m.at = at + 1;
+        m
+    } else {
+        m
+    }
+}
+
+pub(crate) fn put(l: Line, text: &[u8]) -> Line {
+    let mut m = l;
     for i in 0..text.len() {
-        k = byte(out, k, text[i]);
+        m = byte(m, text[i]);
     }
-    k
+    m
 }
 
-fn spaces(out: &mut [u8], at: usize, from: usize, to: usize) -> usize {
-    let mut k = at;
-    for i in from..to {
-        k = byte(out, k, b' ');
+// n spaces.
+fn spaces(l: Line, n: usize) -> Line {
+    let mut m = l;
+    for i in 0..n {
+        m = byte(m, b' ');
     }
-    k
+    m
+}
+
+fn less(a: usize, b: usize) -> usize {
+    if a < b {
+        return 0;
+    }
+    a - b
 }
 
 // On to a column, by two spaces at least.
-pub(crate) fn column(out: &mut [u8], at: usize, to: usize) -> usize {
-    let k = put(out, at, b"  ");
-    spaces(out, k, k, to)
+pub(crate) fn column(l: Line, to: usize) -> Line {
+    let m = spaces(l, 2);
+    spaces(m, less(to, m.at))
+}
+
+// Copies the text to the start of a row and says how long it is.
+pub(crate) fn copied(l: Line, row: &mut [u8]) -> usize {
+    let bytes = l.bytes;
+    let n = stream::least(stream::least(l.at, ROOM), row.len());
+    for i in 0..n {
+        row[i] = bytes[i];
+    }
+    n
 }
 
 // ---- numbers
 
-pub(crate) fn decimal(out: &mut [u8], at: usize, n: u64) -> usize {
+pub(crate) fn decimal(l: Line, n: u64) -> Line {
     let mut digits = [0u8; 20];
     let k = io::decimal(n, &mut digits);
-    put(out, at, &digits[..k])
+    put(l, &digits[..k])
 }
 
-// At the start of the row, with spaces in front up to a width.
-pub(crate) fn right(out: &mut [u8], n: u64, width: usize) -> usize {
+// At the right of a width.
+pub(crate) fn right(l: Line, n: u64, width: usize) -> Line {
     let mut digits = [0u8; 20];
     let k = io::decimal(n, &mut digits);
-    let at = spaces(out, 0, k, width);
-    put(out, at, &digits[..k])
+    let m = spaces(l, less(width, k));
+    put(m, &digits[..k])
 }
 
 fn digit(n: u32) -> u8 {
@@ -65,31 +101,31 @@ fn digit_at(w: u32, j: u32) -> u8 {
 }
 
 // The lowest k digits of a word.
-pub(crate) fn hex(out: &mut [u8], at: usize, w: u32, k: u32) -> usize {
-    let mut p = put(out, at, b"0x");
+pub(crate) fn hex(l: Line, w: u32, k: u32) -> Line {
+    let mut m = put(l, b"0x");
     for i in 0..k {
         let j = k - 1 - i;
-        p = byte(out, p, digit_at(w, j));
+        m = byte(m, digit_at(w, j));
     }
-    p
+    m
 }
 
 // A byte as two digits with a space in front.
-fn pair(out: &mut [u8], at: usize, w: u32) -> usize {
-    let a = byte(out, at, b' ');
-    let b = byte(out, a, digit_at(w, 1));
-    byte(out, b, digit_at(w, 0))
+fn pair(l: Line, w: u32) -> Line {
+    let a = byte(l, b' ');
+    let b = byte(a, digit_at(w, 1));
+    byte(b, digit_at(w, 0))
 }
 
 // The lowest n bytes of a word, the lowest first.
-pub(crate) fn bytes(out: &mut [u8], at: usize, w: u32, n: u32) -> usize {
-    let mut p = at;
+pub(crate) fn bytes(l: Line, w: u32, n: u32) -> Line {
+    let mut m = l;
     let mut rest = w;
     for i in 0..n {
-        p = pair(out, p, rest);
+        m = pair(m, rest);
         rest = rest / 256;
     }
-    p
+    m
 }
 
 // ---- a part of a table; each part ends with a bar
@@ -101,121 +137,133 @@ fn next_part(part: u32, b: u8) -> u32 {
     part
 }
 
-fn said_byte(out: &mut [u8], at: usize, b: u8, n: u64) -> usize {
-    match b {
-        b'|' => at,
-        b'%' => decimal(out, at, n),
-        _ => byte(out, at, b),
+fn said_byte(l: Line, here: bool, b: u8, n: u64) -> Line {
+    if !here | (b == b'|') {
+        return l;
     }
-}
-
-fn said_here(out: &mut [u8], at: usize, here: bool, b: u8, n: u64) -> usize {
-    if here {
-        return said_byte(out, at, b, n);
+    if b == b'%' {
+        return decimal(l, n);
     }
-    at
+    byte(l, b)
 }
 
 // Part `which` of a table, with the number in place of each percent sign.
-pub(crate) fn said(out: &mut [u8], at: usize, table: &[u8], which: u32, n: u64) -> usize {
-    let mut k = at;
+pub(crate) fn said(l: Line, table: &[u8], which: u32, n: u64) -> Line {
+    let mut m = l;
     let mut part: u32 = 0;
     for i in 0..table.len() {
         let b = table[i];
-        k = said_here(out, k, part == which, b, n);
+        m = said_byte(m, part == which, b, n);
         part = next_part(part, b);
     }
-    k
+    m
 }
 
 // ---- fields of a word
 
-// The place in the text, the bits from the present field on, how many values the field has, whether it has a name.
-struct Pen {
-    at: usize,
+// The bits from the present field on, how many values the field has, whether its name has begun.
+struct Field {
     rest: u32,
     size: u32,
     named: bool,
 }
 
-// A byte of the name of a field, where the field is not 0.
-fn letter(out: &mut [u8], p: Pen, b: u8, j: u32) -> usize {
-    if p.size == 0 {
-        return p.at;
+fn value(f: Field) -> u32 {
+    if f.size == 0 {
+        return 0;
     }
-    if p.rest % p.size == 0 {
-        return p.at;
-    }
+    f.rest % f.size
+}
+
+// Whether a byte of a table belongs to a name.
+fn is_letter(b: u8) -> bool {
+    (b != b'.') & (b != b'/') & (b != b'^') & (b != b'-') & (b != b' ') & (b != b'|')
+}
+
+fn is_end(b: u8) -> bool {
+    (b == b' ') | (b == b'|')
+}
+
+// A byte of the name of a field that is set, with a space in front of the first.
+fn letter(l: Line, named: bool, b: u8, j: u32) -> Line {
     if b == b'%' {
-        return decimal(out, p.at, j as u64);
+        return decimal(l, j as u64);
     }
-    if p.named {
-        return byte(out, p.at, b);
+    if named {
+        return byte(l, b);
     }
-    let k = byte(out, p.at, b' ');
-    byte(out, k, b)
+    byte(byte(l, b' '), b)
 }
 
-// The number of a field of several bits, where it is not 0.
-fn number(out: &mut [u8], at: usize, told: bool, n: u32) -> usize {
-    if !told | (n == 0) {
-        return at;
+// The number of a field of several bits.
+fn number(l: Line, size: u32, n: u32) -> Line {
+    if size <= 2 {
+        return l;
     }
-    let k = byte(out, at, b' ');
-    decimal(out, k, n as u64)
+    decimal(byte(l, b' '), n as u64)
 }
 
-fn ended(out: &mut [u8], p: Pen) -> Pen {
-    if p.size == 0 {
-        return p;
+// What a byte of the table puts on the line, where its part is the one that is told.
+fn drawn(l: Line, here: bool, f: Field, b: u8, j: u32) -> Line {
+    let n = value(f);
+    if !here | (n == 0) {
+        return l;
     }
-    Pen {
-        at: number(out, p.at, p.named & (2 < p.size), p.rest % p.size),
-        rest: p.rest / p.size,
+    if is_letter(b) {
+        return letter(l, f.named, b, j);
+    }
+    if is_end(b) & f.named {
+        return number(l, f.size, n);
+    }
+    l
+}
+
+// The field behind a byte of the table, in the word w.
+fn behind(f: Field, here: bool, b: u8, w: u32) -> Field {
+    if !here {
+        return f;
+    }
+    let mut g = f;
+    match b {
+        b'.' => {
+            g.size = std::num::wrapping_add_u32(f.size, f.size);
+            g
+        }
+        b'/' => {
+            g.rest = f.rest / 256;
+            g
+        }
+        b'^' => {
+            g.rest = w;
+            g
+        }
+        b'-' => g,
+        b' ' => passed(f),
+        b'|' => passed(f),
+        _ => {
+            g.named = true;
+            g
+        }
+    }
+}
+
+fn passed(f: Field) -> Field {
+    if f.size == 0 {
+        return f;
+    }
+    Field {
+        rest: f.rest / f.size,
         size: 2,
         named: false,
     }
 }
 
-fn drawn(out: &mut [u8], p: Pen, b: u8, w: u32, j: u32) -> Pen {
-    let mut q = p;
-    match b {
-        b'.' => {
-            q.size = std::num::wrapping_add_u32(p.size, p.size);
-            q
-        }
-        b'/' => {
-            q.rest = p.rest / 256;
-            q
-        }
-        b'^' => {
-            q.rest = w;
-            q
-        }
-        b'-' => q,
-        b' ' => ended(out, p),
-        b'|' => ended(out, p),
-        _ => {
-            q.at = letter(out, p, b, j);
-            q.named = true;
-            q
-        }
-    }
-}
-
-fn drawn_here(out: &mut [u8], p: Pen, here: bool, b: u8, w: u32, j: u32) -> Pen {
-    if here {
-        return drawn(out, p, b, w, j);
-    }
-    p
-}
-
 // The fields of a word that are not 0, each with a space in front: a flag by its name, a longer field by name and
 // number. Part `which` of the table has a word for each field from bit 0 up, with a dot for each bit after its first;
 // a dash is no field, a slash skips a byte, a caret goes back to bit 0, a percent sign stands for j.
-pub(crate) fn fields(out: &mut [u8], at: usize, table: &[u8], which: u32, w: u32, j: u32) -> usize {
-    let mut p = Pen {
-        at: at,
+pub(crate) fn fields(l: Line, table: &[u8], which: u32, w: u32, j: u32) -> Line {
+    let mut m = l;
+    let mut f = Field {
         rest: w,
         size: 2,
         named: false,
@@ -223,8 +271,9 @@ pub(crate) fn fields(out: &mut [u8], at: usize, table: &[u8], which: u32, w: u32
     let mut part: u32 = 0;
     for i in 0..table.len() {
         let b = table[i];
-        p = drawn_here(out, p, part == which, b, w, j);
+        m = drawn(m, part == which, f, b, j);
+        f = behind(f, part == which, b, w);
         part = next_part(part, b);
     }
-    p.at
+    m
 }

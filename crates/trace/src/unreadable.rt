@@ -1,4 +1,5 @@
 // What is wrong with a record that can't be read.
+use super::text::Line;
 use super::text::hex;
 use super::text::said;
 use model::Reading;
@@ -80,21 +81,20 @@ fn count(f: Fault) -> u64 {
     f.left - 3
 }
 
-pub(crate) fn told(out: &mut [u8], at: usize, f: Fault) -> usize {
-    let a = said(out, at, b"refused %: ", 0, f.code as u64);
+pub(crate) fn told(l: Line, f: Fault) -> Line {
+    let a = said(l, b"refused %: ", 0, f.code as u64);
     let b = said(
-        out,
         a,
         b"short header, % bytes of 3|short body, % bytes of |length %, tag |unknown tag ",
         kind(f),
         count(f),
     );
     if f.code < 7 {
-        return said(out, b, b"|%", kind(f), f.length as u64);
+        return said(b, b"|%", kind(f), f.length as u64);
     }
-    let c = hex(out, b, f.tag as u32, 2);
+    let c = hex(b, f.tag as u32, 2);
     if f.code == 7 {
         return c;
     }
-    said(out, c, b" takes %", 0, body_length(f.tag) as u64)
+    said(c, b" takes %", 0, body_length(f.tag) as u64)
 }

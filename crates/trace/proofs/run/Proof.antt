@@ -1,7 +1,6 @@
 -- The rows keep their lengths; the measure is the number of turns that are left.
 use mathlib.Core.Path.{_≡_}
 use lib.ListN.{length}
-use native.Mathlib.Omega.{arith}
 use borrow.Author.Needs.{needs}
 use Rattle.trace.proofs.run.Statement.{statement}
 use Rattle.trace.proofs.run.Tie as tie
@@ -13,28 +12,34 @@ abbrev μ-loop : tie.MeasureT-loop
 μ-loop input₀ out₀ s₀ turns₀ input out s turns = turns
 
 reset-requires : tie.Need-reset-requires Inv-loop μ-loop
-reset-requires c κs = tt
+reset-requires c κs = search needs
 
 begun-requires : tie.Need-begun-requires Inv-loop μ-loop
-begun-requires c κs = tt
+begun-requires c κs = search needs
+
+head-requires : tie.Need-head-requires Inv-loop μ-loop
+head-requires c κs = search needs
+
+stored-requires : tie.Need-stored-requires Inv-loop μ-loop
+stored-requires c κs = search needs
 
 loop-holds : tie.Need-loop-holds Inv-loop μ-loop
 loop-holds c = search needs
 
 round-requires : tie.Need-round-requires Inv-loop μ-loop
-round-requires c κs = tt
+round-requires c κs = search needs
 
 sub-turns : tie.Need-sub-turns Inv-loop μ-loop
-sub-turns c = omega arith
+sub-turns c = search needs
 
 loop-less : tie.Need-loop-less Inv-loop μ-loop
-loop-less c = omega arith
+loop-less c = search needs
 
 loop-again : tie.Need-loop-again Inv-loop μ-loop
 loop-again c = search needs
 
 flushed-requires : tie.Need-flushed-requires Inv-loop μ-loop
-flushed-requires c κs = tt
+flushed-requires c κs = search needs
 
 same-length : tie.Need-same-length Inv-loop μ-loop
 same-length c = search needs
@@ -43,7 +48,7 @@ same-length-2 : tie.Need-same-length-2 Inv-loop μ-loop
 same-length-2 c = search needs
 
 returns : tie.Need-returns Inv-loop μ-loop
-returns c = tt
+returns c = search needs
 
 pub run-spec : {M : Type 1} → statement M
 run-spec =
@@ -53,6 +58,8 @@ run-spec =
     μ-loop
     reset-requires
     begun-requires
+    head-requires
+    stored-requires
     loop-holds
     round-requires
     sub-turns

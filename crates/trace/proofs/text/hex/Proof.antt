@@ -1,21 +1,19 @@
-use mathlib.Core.Path.{_≡_}
-use lib.ListN.{length}
 use Prim.Native.Nat.{_-_}
 use borrow.Author.Needs.{needs}
 use Rattle.trace.proofs.text.hex.Statement.{statement}
 use Rattle.trace.proofs.text.hex.Tie as tie
 
 abbrev Inv-loop : tie.InvT-loop
-Inv-loop out₀ at w k p₀ i₀ out p i = length out ≡ length out₀
+Inv-loop w k m₀ i₀ m i = Unit {0}
 
 abbrev μ-loop : tie.MeasureT-loop
-μ-loop out₀ at w k p₀ i₀ out p i = k - i
+μ-loop w k m₀ i₀ m i = k - i
 
 slice-aggregate-put : tie.Need-slice-aggregate-put Inv-loop μ-loop
 slice-aggregate-put c = search needs
 
 put-requires : tie.Need-put-requires Inv-loop μ-loop
-put-requires c κs = tt
+put-requires c κs = search needs
 
 loop-holds : tie.Need-loop-holds Inv-loop μ-loop
 loop-holds c = search needs
@@ -27,10 +25,10 @@ sub-j-2 : tie.Need-sub-j-2 Inv-loop μ-loop
 sub-j-2 c = search needs
 
 digit-at-requires : tie.Need-digit-at-requires Inv-loop μ-loop
-digit-at-requires c κs = tt
+digit-at-requires c κs = search needs
 
 byte-requires : tie.Need-byte-requires Inv-loop μ-loop
-byte-requires c κs = tt
+byte-requires c κs = search needs
 
 add-i : tie.Need-add-i Inv-loop μ-loop
 add-i c = search needs
@@ -41,27 +39,8 @@ loop-less c = search needs
 loop-again : tie.Need-loop-again Inv-loop μ-loop
 loop-again c = search needs
 
-same-length : tie.Need-same-length Inv-loop μ-loop
-same-length c = search needs
-
 returns : tie.Need-returns Inv-loop μ-loop
-returns c = tt
+returns c = search needs
 
 pub hex-spec : {M : Type 1} → statement M
-hex-spec =
-    tie.close
-    (tie.spec
-    Inv-loop
-    μ-loop
-    slice-aggregate-put
-    put-requires
-    loop-holds
-    sub-j
-    sub-j-2
-    digit-at-requires
-    byte-requires
-    add-i
-    loop-less
-    loop-again
-    same-length
-    returns)
+hex-spec = tie.close (tie.spec Inv-loop μ-loop slice-aggregate-put put-requires loop-holds sub-j sub-j-2 digit-at-requires byte-requires add-i loop-less loop-again returns)

@@ -1,15 +1,13 @@
-use mathlib.Core.Path.{_≡_}
-use lib.ListN.{length}
 use Prim.Native.Nat.{_-_}
 use borrow.Author.Needs.{needs}
 use Rattle.trace.proofs.text.said.Statement.{statement}
 use Rattle.trace.proofs.text.said.Tie as tie
 
 abbrev Inv-loop : tie.InvT-loop
-Inv-loop out₀ at table which n k₀ part₀ i₀ i-end out k part i = length out ≡ length out₀
+Inv-loop table which n m₀ part₀ i₀ i-end m part i = Unit {0}
 
 abbrev μ-loop : tie.MeasureT-loop
-μ-loop out₀ at table which n k₀ part₀ i₀ i-end out k part i = i-end - i
+μ-loop table which n m₀ part₀ i₀ i-end m part i = i-end - i
 
 loop-holds : tie.Need-loop-holds Inv-loop μ-loop
 loop-holds c = search needs
@@ -17,8 +15,8 @@ loop-holds c = search needs
 shared-slice-read-b : tie.Need-shared-slice-read-b Inv-loop μ-loop
 shared-slice-read-b c = search needs
 
-said-here-requires : tie.Need-said-here-requires Inv-loop μ-loop
-said-here-requires c κs = search needs
+said-byte-requires : tie.Need-said-byte-requires Inv-loop μ-loop
+said-byte-requires c κs = search needs
 
 next-part-requires : tie.Need-next-part-requires Inv-loop μ-loop
 next-part-requires c κs = search needs
@@ -32,24 +30,8 @@ loop-less c = search needs
 loop-again : tie.Need-loop-again Inv-loop μ-loop
 loop-again c = search needs
 
-same-length : tie.Need-same-length Inv-loop μ-loop
-same-length c = search needs
-
 returns : tie.Need-returns Inv-loop μ-loop
 returns c = search needs
 
 pub said-spec : {M : Type 1} → statement M
-said-spec =
-    tie.close
-    (tie.spec
-    Inv-loop
-    μ-loop
-    loop-holds
-    shared-slice-read-b
-    said-here-requires
-    next-part-requires
-    add-i
-    loop-less
-    loop-again
-    same-length
-    returns)
+said-spec = tie.close (tie.spec Inv-loop μ-loop loop-holds shared-slice-read-b said-byte-requires next-part-requires add-i loop-less loop-again returns)
