@@ -1,3 +1,4 @@
+-- Document 01: "What is modelled" (one controller is lent and changed in place), "Bench script".
 -- What is said where the controller is lent: the answers without the controller, the reply space from a place on, and how far a replay has come.
 use mathlib.Core.Bool.{Bool, true, false, not, _||_}
 use mathlib.Core.Path.{_≡_}

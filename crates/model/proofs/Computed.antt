@@ -13,7 +13,7 @@ use Rattle.model.specs.Fairness as fairness
 use Rattle.model.specs.Script as script
 
 unfoldable pub transmission : Unit {0}
-unfolding aborted abortedAll offWire mailboxes.tiWritten mailboxes.tdtWritten mailboxes.tdlWritten mailboxes.tdhWritten mailboxes.requestedBy mailboxes.cleared mailboxes.completed mailboxes.tsrWritten mailboxes.sentIdentifier mailboxes.wireKey mailboxes.key mailboxes.before mailboxes.sooner mailboxes.later mailboxes.lowest mailboxes.highest mailboxes.first mailboxes.last mailboxes.low mailboxes.code mailboxes.tsrByte mailboxes.tsr mailboxes.tiWord mailboxes.started mailboxes.over mailboxes.outcomeFlags mailboxes.ended
+unfolding aborted abortedAll offWire mailboxes.tiWritten mailboxes.tdtWritten mailboxes.tdlWritten mailboxes.tdhWritten mailboxes.requestedBy mailboxes.cleared mailboxes.completed mailboxes.tsrWritten mailboxes.sentIdentifier mailboxes.wireKey mailboxes.key mailboxes.before mailboxes.sooner mailboxes.later mailboxes.firstInWireOrder mailboxes.lastInWireOrder mailboxes.first mailboxes.last mailboxes.low mailboxes.code mailboxes.tsrByte mailboxes.tsr mailboxes.tiWord mailboxes.started mailboxes.over mailboxes.outcomeFlags mailboxes.ended
 transmission = tt
 
 unfoldable pub receiving : Unit {0}

@@ -8,7 +8,7 @@ use lib.Dec.{leb, ltb, eqb}
 use borrow.Author.Tests.{eqb-true}
 use Rattle.model.specs.Base.{pick, bit, bits}
 use Rattle.model.specs.Queue.{number, numbered, senderNumber, same, holds, oldest, isFrom, isNobody, isEmpty, noRequests, requested, sending, offWire}
-use Rattle.model.specs.Mailboxes.{lowest, sooner, before, first, firstOf, identifiers, requestedBy, tsrWritten, started, ended, over}
+use Rattle.model.specs.Mailboxes.{firstInWireOrder, sooner, before, first, firstOf, identifiers, requestedBy, tsrWritten, started, ended, over}
 use Rattle.model.specs.Reception.{malformed}
 use Rattle.model.specs.Control.{nart, txfp, awum, silm, lbkm, isNormal, isSleep, boff, mcrMasked, sleepCleared, entered, counted, idled, ticked, woken, noticed, controlReset, masterReset, mcrWritten, msrWritten, ierWritten, btrWritten}
 use Rattle.model.specs.Control as control
@@ -156,14 +156,14 @@ held-three a b c = each (λ o a b c. holds (Three a b c) a && (holds (Three a b 
 from-eq : (a m : Mailbox) → From a ≡ From m → a ≡ m
 from-eq a m e = cc
 
-lowest-held : (i : Identifiers) (o : RequestOrder) (m : Mailbox) → lowest i o ≡ From m → Is (holds o m)
-unfolding lowest
-lowest-held i Empty m e = absurd (true≢false (ap isNobody e))
-lowest-held i (One a) m e = rw (← (from-eq a m e)) (same-refl a)
-lowest-held i (Two a b) m e =
+first-in-wire-order-held : (i : Identifiers) (o : RequestOrder) (m : Mailbox) → firstInWireOrder i o ≡ From m → Is (holds o m)
+unfolding firstInWireOrder
+first-in-wire-order-held i Empty m e = absurd (true≢false (ap isNobody e))
+first-in-wire-order-held i (One a) m e = rw (← (from-eq a m e)) (same-refl a)
+first-in-wire-order-held i (Two a b) m e =
     let o : RequestOrder = Two a b in
     rw (← (from-eq (sooner i a b) m e)) (sooner-held i a b o (and-l (holds o a) (holds o b) (held-two a b)) (and-r (holds o a) (holds o b) (held-two a b)))
-lowest-held i (Three a b c) m e =
+first-in-wire-order-held i (Three a b c) m e =
     let o : RequestOrder = Three a b c in
     let k : Is (holds o b && holds o c) = and-r (holds o a) (holds o b && holds o c) (held-three a b c) in
     rw (← (from-eq (sooner i (sooner i a b) c) m e))
@@ -176,7 +176,7 @@ unfolding first
 first-held true i o m e =
     let k : Is (isFrom (oldest o) m) = rw e (same-refl m) in
     (oldest-held o m k, λ _. k)
-first-held false i o m e = (lowest-held i o m e, λ f. absurd (false≢true f))
+first-held false i o m e = (first-in-wire-order-held i o m e, λ f. absurd (false≢true f))
 
 pub first-carried : (b : Bool) (i : Identifiers) (o : RequestOrder) → Is (carried (first b i o) o)
 first-carried b i o = go (first b i o) refl
@@ -190,7 +190,7 @@ someone : (v : Sender) (m : Mailbox) → v ≡ From m → v ≡ Nobody → ⊥
 someone v m p q = absurd (true≢false (ap isNobody (sym q ∙ p)))
 
 first-some : (b : Bool) (i : Identifiers) (o : RequestOrder) → first b i o ≡ Nobody → Is (isEmpty o)
-unfolding first lowest
+unfolding first firstInWireOrder
 first-some true i Empty e = refl
 first-some true i (One a) e = absurd (someone _ a refl e)
 first-some true i (Two a b) e = absurd (someone _ a refl e)

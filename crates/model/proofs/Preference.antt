@@ -12,6 +12,7 @@ use lib.Dec.{ltb}
 use Rattle.model.specs.Base.{pick}
 use Rattle.model.specs.Banks.{filterNumber}
 use Rattle.model.specs.Search.{better, orNext, chosen}
+use Rattle.model.specs.Codes.{fifoNumber}
 use Rattle.model.specs.declared.Fifo.{Fifo}
 use Rattle.model.specs.declared.Fifo.the-variants.{F0, F1}
 use Rattle.model.specs.declared.FilterNumber.{FilterNumber}
@@ -22,11 +23,6 @@ use Rattle.model.specs.declared.Acceptance.the-variants.{Into, Rejected}
 use Rattle.model.proofs.FirstHit.{nothing-no-filter}
 
 -- ---- the order of preference
-
--- FIFO 0 before FIFO 1
-abbrev pub fifoNumber : Fifo → ℕ
-fifoNumber F0 = 0
-fifoNumber F1 = 1
 
 -- number x in FIFO f comes no later than y in e: the lower number first, and FIFO 0 first where they are equal
 abbrev pub NumberNoLater : FilterNumber → Fifo → FilterNumber → Fifo → Type 0

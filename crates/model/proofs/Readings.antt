@@ -9,7 +9,7 @@ use lib.ListN.{length}
 use borrow.Author.Tests.{ltb-false, leb-true, leb-false, lt-leb, ne-eqb}
 use Rattle.model.specs.Base.{pick}
 use Rattle.model.specs.Step.{refusal, answered, step}
-use Rattle.model.specs.Script.{byteAt, bodyLength, reading, stayed, atEnd, passed, replayed, recordAt, stops}
+use Rattle.model.specs.Script.{byteAt, bodyLength, reading, readingCode, stayed, atEnd, passed, replayed, recordAt, stops}
 use Rattle.model.specs.Scripts.{isEnd, noSpace, headerShort, tagUnknown, lengthWrong, bodyShort, behind, stepAt, RecordCodes}
 use Rattle.model.specs.declared.Core.{Core}
 use Rattle.model.specs.declared.Controller.{Controller}
@@ -113,6 +113,17 @@ table false false false false false false z n p x q l = record {
 }
 
 -- the table of one record
+-- a record that is not answered, though there is space, has the code of its reading
+unread-code : (x : Reading) (z : Controller) (n p space : ℕ) → noSpace space ≡ false → stops (replayed x z n p space .ended) (replayed x z n p space .code) ≡ true → replayed x z n p space .code ≡ readingCode x
+unfolding replayed
+unread-code End z n p space h s = refl
+unread-code (Malformed k) z n p space h s = rw h
+unread-code (Found e q) z n p space h s = absurd (false≢true (rw (h, lt-leb 6 (step z e .code) (omega (arith, code-small z e))) at s))
+
+unread-at : (z : Controller) (s : List ℕ) (p space : ℕ) → noSpace space ≡ false → stops (recordAt z s p space .ended) (recordAt z s p space .code) ≡ true → recordAt z s p space .code ≡ readingCode (reading s p)
+unfolding recordAt
+unread-at z s p space = unread-code (reading s p) z (length s) p space
+
 pub record-codes : (z : Controller) (s : List ℕ) (p space : ℕ) → RecordCodes z s p space (recordAt z s p space)
 record-codes z s p space = record {
   ends = t .ends;
@@ -121,6 +132,7 @@ record-codes z s p space = record {
   code7 = t .code7;
   code8 = t .code8;
   unanswered = t .unanswered;
+  unread = unread-at z s p space;
   answered = t .answered;
   ownCode = t .ownCode;
 }

@@ -64,7 +64,8 @@ filters Mask16 a b = under (lowHalf a) (highHalf a) ∷ under (lowHalf b) (highH
 abbrev pub width : FilterClass → ℕ
 width k = length (filters k 0 0)
 
--- a frame's 16-bit word, from the top: the top 11 bits, RTR, IDE, EXID 17 to 15
+-- a frame's 16-bit word, from the top: the top 11 bits, RTR, IDE, EXID 17 to 15, which a standard frame has as 0 (`malformed`,
+-- `sentIdentifier`)
 abbrev pub shortWord : ℕ → ℕ
 shortWord w = w / 2 ^ 21 * 32 + bits 1 1 w * 16 + bits 2 1 w * 8 + bits 18 3 w
 

@@ -4,7 +4,7 @@ use mathlib.Core.Bool.{Bool, true, false, not, _&&_, _||_}
 use Prim.Native.Nat.{ℕ, _+_, _*_, _/_, _%_, _^_}
 use lib.Dec.{eqb, ltb}
 use Rattle.model.specs.Base.{pick, bit, bits, one}
-use Rattle.model.specs.Queue.{number, flag, holds, oldest, newest, isFrom, besides, senderNumber, severalWait, requested, abortedAll, sending, offWire, noRequests}
+use Rattle.model.specs.Queue.{number, flag, holds, oldest, newest, isFrom, besides, senderNumber, twoOrMore, requested, abortedAll, sending, offWire, noRequests}
 use Rattle.model.specs.declared.Mailbox.{Mailbox}
 use Rattle.model.specs.declared.Mailbox.the-variants.{M0, M1, M2}
 use Rattle.model.specs.declared.Sender.{Sender}
@@ -140,24 +140,24 @@ unfoldable pub later : Identifiers → Mailbox → Mailbox → Mailbox
 later i a b = pick (before i a b) b a
 
 -- first and last in wire order
-unfoldable pub lowest : Identifiers → RequestOrder → Sender
-lowest i Empty = Nobody
-lowest i (One a) = From a
-lowest i (Two a b) = From (sooner i a b)
-lowest i (Three a b c) = From (sooner i (sooner i a b) c)
+unfoldable pub firstInWireOrder : Identifiers → RequestOrder → Sender
+firstInWireOrder i Empty = Nobody
+firstInWireOrder i (One a) = From a
+firstInWireOrder i (Two a b) = From (sooner i a b)
+firstInWireOrder i (Three a b c) = From (sooner i (sooner i a b) c)
 
-unfoldable pub highest : Identifiers → RequestOrder → Sender
-highest i Empty = Nobody
-highest i (One a) = From a
-highest i (Two a b) = From (later i a b)
-highest i (Three a b c) = From (later i (later i a b) c)
+unfoldable pub lastInWireOrder : Identifiers → RequestOrder → Sender
+lastInWireOrder i Empty = Nobody
+lastInWireOrder i (One a) = From a
+lastInWireOrder i (Two a b) = From (later i a b)
+lastInWireOrder i (Three a b c) = From (later i (later i a b) c)
 
 -- first and last in priority: request order if TXFP=1, else the bits on the wire
 unfoldable pub first : Bool → Identifiers → RequestOrder → Sender
-first txfp i o = pick txfp (oldest o) (lowest i o)
+first txfp i o = pick txfp (oldest o) (firstInWireOrder i o)
 
 unfoldable pub last : Bool → Identifiers → RequestOrder → Sender
-last txfp i o = pick txfp (newest o) (highest i o)
+last txfp i o = pick txfp (newest o) (lastInWireOrder i o)
 
 abbrev pub firstOf : Bool → Transmit → Sender
 firstOf txfp t = first txfp (identifiers (t .mailboxes)) (t .queue .order)
@@ -173,7 +173,7 @@ tme t m = not (holds (t .queue .order) m)
 
 -- with two or more not empty, the lowest in priority
 unfoldable pub low : Bool → Transmit → Mailbox → Bool
-low txfp t m = severalWait (t .queue .order) && isFrom (lastOf txfp t) m
+low txfp t m = twoOrMore (t .queue .order) && isFrom (lastOf txfp t) m
 
 -- the lowest empty mailbox, else the lowest in priority
 unfoldable pub code : Bool → Transmit → ℕ

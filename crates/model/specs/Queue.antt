@@ -57,7 +57,7 @@ holds (One a) m = same a m
 holds (Two a b) m = same a m || same b m
 holds (Three a b c) m = same a m || same b m || same c m
 
--- a new request is the last one
+-- a new request is the last one; no fourth comes, since a mailbox with a request refuses TI
 abbrev pub joined : RequestOrder → Mailbox → RequestOrder
 joined Empty m = One m
 joined (One a) m = Two a m
@@ -88,11 +88,12 @@ isEmpty (One a) = false
 isEmpty (Two a b) = false
 isEmpty (Three a b c) = false
 
-abbrev pub severalWait : RequestOrder → Bool
-severalWait Empty = false
-severalWait (One a) = false
-severalWait (Two a b) = true
-severalWait (Three a b c) = true
+-- two or more mailboxes are not empty
+abbrev pub twoOrMore : RequestOrder → Bool
+twoOrMore Empty = false
+twoOrMore (One a) = false
+twoOrMore (Two a b) = true
+twoOrMore (Three a b c) = true
 
 -- ---- the mailbox that is transmitting
 

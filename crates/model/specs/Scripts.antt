@@ -9,7 +9,7 @@ use lib.ListN.{length, take, drop}
 use Rattle.model.specs.Base.{pick}
 use Rattle.model.specs.Step.{step}
 use Rattle.model.specs.Requests.{after}
-use Rattle.model.specs.Script.{byteAt, number16, isTag, bodyLength, decoded, part, reading, stayed, atEnd, passed, recordAt, replyOf, stops, Progress, begun, advanced, times, replay, stepsOf, repliesTo}
+use Rattle.model.specs.Script.{byteAt, number16, isTag, bodyLength, decoded, part, reading, stayed, atEnd, passed, recordAt, replyOf, stops, Progress, begun, advanced, times, replay, stepsOf, repliesTo, readingCode}
 use Rattle.model.specs.declared.Controller.{Controller}
 use Rattle.model.specs.declared.Reading.{Reading}
 use Rattle.model.specs.declared.Reading.the-variants.{End, Malformed, Found}
@@ -59,6 +59,7 @@ pub record RecordCodes (z : Controller) (s : List ℕ) (p space : ℕ) (r : Repl
   pub code7 : eqb (r .code) 7 ≡ (answerable s p space && not (headerShort s p) && tagUnknown s p)
   pub code8 : eqb (r .code) 8 ≡ (answerable s p space && not (headerShort s p) && not (tagUnknown s p) && lengthWrong s p)
   pub unanswered : stops (r .ended) (r .code) ≡ true → r ≡ pick (isEnd s p) (atEnd z (length s)) (stayed z p (r .code))
+  pub unread : noSpace space ≡ false → stops (r .ended) (r .code) ≡ true → r .code ≡ readingCode (reading s p)
   pub answered : stops (r .ended) (r .code) ≡ false → r ≡ passed (step z (stepAt s p)) (behind s p)
   pub ownCode : stops (r .ended) (r .code) ≡ false → r .code ≤ 5
 

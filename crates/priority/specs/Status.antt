@@ -3,7 +3,7 @@
 use mathlib.Core.Bool.{not, _&&_}
 use Prim.Native.Nat.{ℕ, _+_, _*_, _^_}
 use Rattle.model.specs.Base.{pick, one}
-use Rattle.model.specs.Queue.{holds, isFrom, senderNumber, severalWait}
+use Rattle.model.specs.Queue.{holds, isFrom, senderNumber, twoOrMore}
 use Rattle.model.specs.Mailboxes.{tsrByte}
 use Rattle.model.specs.declared.Mailbox.the-variants.{M0, M1, M2}
 use Rattle.model.specs.declared.Sender.{Sender}
@@ -21,7 +21,7 @@ tmeBits o = record { m0 = not (holds o M0); m1 = not (holds o M1); m2 = not (hol
 
 -- LOW, where s is the last in priority
 unfoldable pub lowBits : RequestOrder → Sender → MailboxBits
-lowBits o s = record { m0 = severalWait o && isFrom s M0; m1 = severalWait o && isFrom s M1; m2 = severalWait o && isFrom s M2 }
+lowBits o s = record { m0 = twoOrMore o && isFrom s M0; m1 = twoOrMore o && isFrom s M1; m2 = twoOrMore o && isFrom s M2 }
 
 -- CODE
 unfoldable pub codeOf : MailboxBits → Sender → ℕ

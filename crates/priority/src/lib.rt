@@ -81,8 +81,8 @@ fn later(i: Identifiers, a: Mailbox, b: Mailbox) -> Mailbox
     a
 }
 
-fn lowest(i: Identifiers, o: RequestOrder) -> Sender
-    ensures { λ r. ⌜ r ≡ mailboxes.lowest i o ⌝ }
+fn first_in_wire_order(i: Identifiers, o: RequestOrder) -> Sender
+    ensures { λ r. ⌜ r ≡ mailboxes.firstInWireOrder i o ⌝ }
 {
     match o {
         RequestOrder::Empty => Sender::Nobody,
@@ -92,8 +92,8 @@ fn lowest(i: Identifiers, o: RequestOrder) -> Sender
     }
 }
 
-fn highest(i: Identifiers, o: RequestOrder) -> Sender
-    ensures { λ r. ⌜ r ≡ mailboxes.highest i o ⌝ }
+fn last_in_wire_order(i: Identifiers, o: RequestOrder) -> Sender
+    ensures { λ r. ⌜ r ≡ mailboxes.lastInWireOrder i o ⌝ }
 {
     match o {
         RequestOrder::Empty => Sender::Nobody,
@@ -110,7 +110,7 @@ pub fn first(txfp: bool, i: Identifiers, o: RequestOrder) -> Sender
     if txfp {
         return oldest(o);
     }
-    lowest(i, o)
+    first_in_wire_order(i, o)
 }
 
 pub fn last(txfp: bool, i: Identifiers, o: RequestOrder) -> Sender
@@ -119,7 +119,7 @@ pub fn last(txfp: bool, i: Identifiers, o: RequestOrder) -> Sender
     if txfp {
         return newest(o);
     }
-    highest(i, o)
+    last_in_wire_order(i, o)
 }
 
 // The one on the wire stands first, so it is not the last where another waits.

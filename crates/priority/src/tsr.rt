@@ -16,7 +16,7 @@ use model::Transmit;
 use queue::holds;
 use queue::is_from;
 use queue::sender_number;
-use queue::several_wait;
+use queue::two_or_more;
 
 fn as_number(f: MailboxBits) -> u32
     ensures { λ r. ⌜ (r ≡ status.asNumber f) × (r < 8) ⌝ }
@@ -39,7 +39,7 @@ fn tme_bits(o: RequestOrder) -> MailboxBits
 fn low_bits(o: RequestOrder, last: Sender) -> MailboxBits
     ensures { λ r. ⌜ r ≡ status.lowBits o last ⌝ }
 {
-    let several = several_wait(o);
+    let several = two_or_more(o);
     MailboxBits {
         m0: several & is_from(last, Mailbox::M0),
         m1: several & is_from(last, Mailbox::M1),

@@ -178,8 +178,9 @@ pub fn is_empty(o: RequestOrder) -> bool
     }
 }
 
-pub fn several_wait(o: RequestOrder) -> bool
-    ensures { λ r. ⌜ r ≡ queue.severalWait o ⌝ }
+// Two or more mailboxes are not empty.
+pub fn two_or_more(o: RequestOrder) -> bool
+    ensures { λ r. ⌜ r ≡ queue.twoOrMore o ⌝ }
 {
     match o {
         RequestOrder::Empty => false,

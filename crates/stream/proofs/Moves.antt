@@ -1,9 +1,11 @@
 -- Bytes moved to the front of a list one by one, each from its own place further on.
 use mathlib.Core.Path.{_≡_, refl, sym, ap, subst, _∙_}
+use mathlib.Core.Bool.{Bool, false, _&&_, _||_}
 use mathlib.Core.List.{List, [], _∷_, _++_}
 use Prim.Native.Nat.{ℕ, zero, suc, _+_, _-_, _≤_, _<_, min}
 use native.Mathlib.Nat.{zero-add, add-comm, min-eq-left}
 use native.Mathlib.Omega.{arith}
+use lib.Dec.{eqb}
 use lib.ListN.{length, getD, take, drop, set, length-take, length-drop}
 use lib.Seq.{paste, paste-suc, length-paste, getD-append-add, getD-drop, take-at}
 use borrow.Rule.Slice.PartMut.{putMid, take-put}
@@ -42,8 +44,9 @@ one-moved from i s d h =
 
 -- bytes read behind those that were moved to the front
 pub refills : (from to h m k : ℕ) (s t p : List ℕ) → h ≡ between from to (length s) → t ≡ moved from h s → h ≤ length t → length (putMid h k t p) ≡ length s → h + m ≤ length s
-    → ((h + m ≤ length (putMid h k t p)) × (h + m ≡ length (take (h + m) (putMid h k t p)))) × Refilled from to s (putMid h k t p) (h + m)
-refills from to h m k s t p g e f size b =
+    → (ended failed : Bool) → (ended || failed) ≡ eqb (h + m) h → (ended && failed) ≡ false
+    → ((h + m ≤ length (putMid h k t p)) × (h + m ≡ length (take (h + m) (putMid h k t p)))) × Refilled from to s (putMid h k t p) (h + m) ended failed
+refills from to h m k s t p g e f size b ended failed nothing apart =
     let within : h + m ≤ length (putMid h k t p) = omega (arith, size, b) in
     let lies : h ≤ length (drop from s) = rw (length-drop from s) (omega (arith, g)) in
     let front : take h t ≡ take h (drop from s) = ap (λ (l : List ℕ). take h l) e ∙ take-at (take h (drop from s)) (drop h s) h (length-take h (drop from s) ∙ min-eq-left lies) in (
@@ -53,5 +56,7 @@ refills from to h m k s t p g e f size b =
         counted = omega (arith, g);
         within = within;
         size = size;
+        nothing = nothing ∙ ap (λ (j : ℕ). eqb (h + m) j) g;
+        apart = apart;
       },
     )

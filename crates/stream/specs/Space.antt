@@ -1,7 +1,9 @@
 -- A space of bytes that holds a piece of a script. Nothing here is of document 01.
 use mathlib.Core.Path.{_≡_}
+use mathlib.Core.Bool.{Bool, false, _&&_, _||_}
 use mathlib.Core.List.{List, _++_}
 use Prim.Native.Nat.{ℕ, _-_, _≤_, min}
+use lib.Dec.{eqb}
 use lib.ListN.{length, take, drop}
 
 -- how many bytes lie from one place up to another in a space of n bytes
@@ -12,9 +14,12 @@ between from to n = min to n - from
 abbrev pub moved : ℕ → ℕ → List ℕ → List ℕ
 moved from k s = take k (drop from s) ++ drop k s
 
--- more was read behind the bytes that were moved to the front: these are there still, and n counts bytes of the space
-pub record Refilled (from to : ℕ) (before after : List ℕ) (n : ℕ) : Type 0 where
+-- more was read behind the bytes that were moved to the front: these are there still, and n counts bytes of the space; nothing came
+-- exactly where the input ended or the read failed. Which bytes come is up to the input, and so is what lies past n
+pub record Refilled (from to : ℕ) (before after : List ℕ) (n : ℕ) (ended failed : Bool) : Type 0 where
   pub kept : take (between from to (length before)) after ≡ take (between from to (length before)) (drop from before)
   pub counted : between from to (length before) ≤ n
   pub within : n ≤ length after
   pub size : length after ≡ length before
+  pub nothing : (ended || failed) ≡ eqb n (between from to (length before))
+  pub apart : (ended && failed) ≡ false

@@ -40,10 +40,11 @@ pub struct Filled {
     pub failed: bool,
 }
 
-// Moves the bytes from one place up to another to the front and reads from standard input behind them.
+// Moves the bytes from one place up to another to the front and reads from standard input behind them, where there is room: in a
+// full space nothing can be read, and that counts as the end.
 pub fn refilled(space: &mut [u8], from: usize, to: usize) -> Filled
     ensures { λ r. ⌜ Counts (r .length) (now (space .exit)) ⌝ }
-    ensures { λ r. ⌜ spaces.Refilled from to (now (space .entry)) (now (space .exit)) (r .length) ⌝ }
+    ensures { λ r. ⌜ spaces.Refilled from to (now (space .entry)) (now (space .exit)) (r .length) (r .ended) (r .failed) ⌝ }
 {
     let held = to_front(space, from, to);
     let got = libc::read(STDIN_FILENO, &mut space[held..]);

@@ -10,12 +10,12 @@ returns : tie.Need-returns
 unfolding last
 returns c = simp (c .newest .ensures, c .before .if1 .taken)
 
-highest-requires : tie.Need-highest-requires
-highest-requires c κs = search needs
+last-in-wire-order-requires : tie.Need-last-in-wire-order-requires
+last-in-wire-order-requires c κs = search needs
 
 returns-2 : tie.Need-returns-2
 unfolding last
-returns-2 c = simp (c .highest .ensures, c .before .if1 .left)
+returns-2 c = simp (c .last-in-wire-order .ensures, c .before .if1 .left)
 
 pub last-spec : {M : Type 1} → statement M
-last-spec = tie.close (tie.spec newest-requires returns highest-requires returns-2)
+last-spec = tie.close (tie.spec newest-requires returns last-in-wire-order-requires returns-2)

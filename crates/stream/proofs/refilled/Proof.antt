@@ -2,6 +2,7 @@ use borrow.Author.Needs.{needs}
 use Prim.Native.Nat.{_-_}
 use lib.ListN.{length}
 use Rattle.stream.proofs.Moves.{refills}
+use Rattle.stream.proofs.Answers.{nothing-came, not-both}
 use Rattle.stream.proofs.refilled.Statement.{statement}
 use Rattle.stream.proofs.refilled.Tie as tie
 
@@ -43,7 +44,7 @@ returns c =
     let a = c .before .before .before .before .before .before .before .before .before .before .before .before .args in
     let v = c .before .before .before .before .before .before .before .before .before .to-front in
     let r = c .before .before .before .before .before .read in
-    refills (a .from) (a .to) (v .result) (c .count .result) (length (v .last .0) - v .result) (a .space .now) (v .last .0) (r .last .1 .0) (v .ensures .0) (v .ensures .1) (search needs) (search needs) (search needs)
+    refills (a .from) (a .to) (v .result) (c .count .result) (length (v .last .0) - v .result) (a .space .now) (v .last .0) (r .last .1 .0) (v .ensures .0) (v .ensures .1) (search needs) (search needs) (search needs) _ _ (nothing-came (r .result) (v .result) (c .count .result) _ _ (record { sfits = r .ok }) (r .ensures) (search needs) (c .count .ensures .1)) (not-both (r .result) _ (record { sfits = r .ok }) (r .ensures))
 
 pub refilled-spec : {M : Type 1} → statement M
 refilled-spec =

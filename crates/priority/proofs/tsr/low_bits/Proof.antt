@@ -3,8 +3,8 @@ use Rattle.priority.specs.Status.{lowBits}
 use Rattle.priority.proofs.tsr.low_bits.Statement.{statement}
 use Rattle.priority.proofs.tsr.low_bits.Tie as tie
 
-several-wait-requires : tie.Need-several-wait-requires
-several-wait-requires c κs = search needs
+two-or-more-requires : tie.Need-two-or-more-requires
+two-or-more-requires c κs = search needs
 
 is-from-requires : tie.Need-is-from-requires
 is-from-requires c κs = search needs
@@ -17,9 +17,9 @@ is-from-requires-3 c κs = search needs
 
 returns : tie.Need-returns
 unfolding lowBits
-returns c = simp (c .is-from3 .ensures, c .before .is-from2 .ensures, c .before .before .is-from .ensures, c .before .before .before .several-wait .ensures)
+returns c = simp (c .is-from3 .ensures, c .before .is-from2 .ensures, c .before .before .is-from .ensures, c .before .before .before .two-or-more .ensures)
 
 pub low-bits-spec : {M : Type 1} → statement M
 low-bits-spec =
     tie.close
-    (tie.spec several-wait-requires is-from-requires is-from-requires-2 is-from-requires-3 returns)
+    (tie.spec two-or-more-requires is-from-requires is-from-requires-2 is-from-requires-3 returns)
