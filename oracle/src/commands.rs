@@ -1,6 +1,6 @@
 //! The subcommands.
 
-use crate::book::Book;
+use crate::requests::Requests;
 use crate::controller::Controller;
 use crate::generate::{generate, Kind, KINDS};
 use crate::malformed;
@@ -165,7 +165,7 @@ fn check() -> Status {
     let script = standard_input()?;
     let mut replies = Replies::new()?;
     let mut controller = Controller::at_reset();
-    let mut book = Book::default();
+    let mut requests = Requests::default();
     let mut reply = [0; REPLY_LENGTH];
     let (mut record, mut place) = (0u64, 0);
     let status = loop {
@@ -179,7 +179,7 @@ fn check() -> Status {
             break UNREADABLE_RECORD;
         }
         let Ok((step, _)) = decode(&script[place..]) else { break UNREADABLE_RECORD };
-        let kept = book.feed(record, step, progress.answer).and_then(|()| book.check_tme(tsr_of(&controller)));
+        let kept = requests.feed(record, step, progress.answer).and_then(|()| requests.check_tme(tsr_of(&controller)));
         if let Err(violation) = kept {
             eprintln!("record {} at byte {place} ({}): {violation}", record + 1, step.in_words());
             break DEMAND_VIOLATED;
@@ -188,7 +188,7 @@ fn check() -> Status {
         place = progress.place;
     };
     replies.flush();
-    eprintln!("{record} records, {} requests accepted, {} ended", book.accepted, book.ended);
+    eprintln!("{record} records, {} requests accepted, {} ended", requests.accepted, requests.ended);
     Ok(status)
 }
 

@@ -2,7 +2,6 @@
 //! generator of scripts and the tools to compare another one with it.
 #![allow(unexpected_cfgs)]
 
-mod book;
 mod commands;
 mod controller;
 #[cfg(coverage)]
@@ -15,6 +14,7 @@ mod malformed;
 mod probe;
 mod race;
 mod registers;
+mod requests;
 mod rng;
 mod script;
 mod shrink;

@@ -21,7 +21,7 @@ struct Request {
 }
 
 #[derive(Default, Debug)]
-pub struct Book {
+pub struct Requests {
     outstanding: [Option<Request>; MAILBOXES],
     abort_mark: [bool; MAILBOXES],
     on_wire: Option<usize>,
@@ -31,7 +31,7 @@ pub struct Book {
     pub ended: u64,
 }
 
-impl Book {
+impl Requests {
     /// Feeds one step. An error is a violation of demand 3, in words.
     pub fn feed(&mut self, record: u64, step: Step, answer: Answer) -> Result<(), String> {
         if answer.code != 0 {
@@ -49,7 +49,7 @@ impl Book {
 
     /// Outstanding requests are dropped, not ended.
     fn begin_anew(&mut self) {
-        *self = Book { accepted: self.accepted, ended: self.ended, ..Book::default() };
+        *self = Requests { accepted: self.accepted, ended: self.ended, ..Requests::default() };
     }
 
     fn feed_write(&mut self, record: u64, offset: u16, word: u32) {
@@ -123,8 +123,8 @@ impl Book {
             let outstanding = self.outstanding[x].is_some();
             if reads_empty == outstanding {
                 let reading = if reads_empty { "empty" } else { "not empty" };
-                let booked = if outstanding { "outstanding" } else { "none outstanding" };
-                return Err(format!("mailbox {x} reads {reading}, in the book its request is {booked}"));
+                let kept = if outstanding { "outstanding" } else { "none outstanding" };
+                return Err(format!("mailbox {x} reads {reading}, in the book its request is {kept}"));
             }
         }
         Ok(())
