@@ -177,7 +177,7 @@ pub fn same_control(k: Control) -> Control
         timer: k.timer,
         mode: mode,
         recovery: k.recovery,
-        initialized: k.initialized,
+        reinitialized: k.reinitialized,
         erri: k.erri,
         wkui: k.wkui,
         slaki: k.slaki,
@@ -202,7 +202,7 @@ pub fn entered(k: Control, m: Mode, off: bool) -> Control
         timer: k.timer,
         mode: m,
         recovery: pick_u8(begins, 0, k.recovery),
-        initialized: k.initialized | (begins & off),
+        reinitialized: k.reinitialized | (begins & off),
         erri: k.erri,
         wkui: k.wkui,
         slaki: slaki,
@@ -237,7 +237,7 @@ pub fn control_reset() -> Control
         timer: 0,
         mode: Mode::Sleep,
         recovery: 0,
-        initialized: false,
+        reinitialized: false,
         erri: false,
         wkui: false,
         slaki: false,
@@ -254,7 +254,7 @@ pub fn master_reset(k: Control) -> Control
         timer: 0,
         mode: Mode::Sleep,
         recovery: 0,
-        initialized: k.initialized,
+        reinitialized: k.reinitialized,
         erri: false,
         wkui: false,
         slaki: false,
@@ -344,17 +344,17 @@ pub fn status_line(k: Control) -> bool
 
 // ---- bus events
 
-pub fn counts(k: Control, e: Errors) -> bool
-    ensures { λ r. ⌜ r ≡ control.counts k e ⌝ }
+pub fn idle_counts(k: Control, e: Errors) -> bool
+    ensures { λ r. ⌜ r ≡ control.idleCounts k e ⌝ }
 {
     let m = k.mode;
-    boff(e) & is_normal(m) & (abom(k) | k.initialized)
+    boff(e) & is_normal(m) & (abom(k) | k.reinitialized)
 }
 
 pub fn recovers(k: Control, e: Errors) -> bool
     ensures { λ r. ⌜ r ≡ control.recovers k e ⌝ }
 {
-    counts(k, e) & (127 <= k.recovery)
+    idle_counts(k, e) & (127 <= k.recovery)
 }
 
 pub fn counted(k: Control, e: Errors) -> Control
@@ -363,8 +363,8 @@ pub fn counted(k: Control, e: Errors) -> Control
     let over = recovers(k, e);
     let more = std::num::wrapping_add_u8(k.recovery, 1);
     let mut d = k;
-    d.recovery = pick_u8(over, 0, pick_u8(counts(k, e), more, k.recovery));
-    d.initialized = k.initialized & !over;
+    d.recovery = pick_u8(over, 0, pick_u8(idle_counts(k, e), more, k.recovery));
+    d.reinitialized = k.reinitialized & !over;
     same_control(d)
 }
 
@@ -481,8 +481,8 @@ pub fn rec_plus(x: u8, n: u8) -> u8
     x + n
 }
 
-pub fn fault_errors(e: Errors, k: u8, n: u8) -> Errors
-    ensures { λ r. ⌜ r ≡ control.faultErrors e k n ⌝ }
+pub fn receive_error_counters(e: Errors, k: u8, n: u8) -> Errors
+    ensures { λ r. ⌜ r ≡ control.receiveErrorCounters e k n ⌝ }
 {
     Errors {
         tec: e.tec,
@@ -491,8 +491,8 @@ pub fn fault_errors(e: Errors, k: u8, n: u8) -> Errors
     }
 }
 
-pub fn noticed(k: Control, e: Errors, d: Errors, coded: bool) -> Control
-    ensures { λ r. ⌜ r ≡ control.noticed k e d coded ⌝ }
+pub fn errors_changed(k: Control, e: Errors, d: Errors, coded: bool) -> Control
+    ensures { λ r. ⌜ r ≡ control.errorsChanged k e d coded ⌝ }
 {
     let mode = k.mode;
     let off = boff(d);
@@ -508,7 +508,7 @@ pub fn noticed(k: Control, e: Errors, d: Errors, coded: bool) -> Control
         timer: k.timer,
         mode: mode,
         recovery: pick_u8(off, 0, k.recovery),
-        initialized: k.initialized & !off,
+        reinitialized: k.reinitialized & !off,
         erri: erri,
         wkui: k.wkui,
         slaki: k.slaki,

@@ -45,9 +45,9 @@ pub fn activity(c: Core) -> Core
 pub fn receive_error(c: Core, code: u8, by: u8) -> Core
     ensures { λ r. ⌜ r ≡ stepping.applied c [] (steps.ReceiveError code by) ⌝ }
 {
-    let e = control::fault_errors(c.errors, code, by);
+    let e = control::receive_error_counters(c.errors, code, by);
     let mut d = c;
-    d.control = control::noticed(c.control, c.errors, e, true);
+    d.control = control::errors_changed(c.control, c.errors, e, true);
     d.errors = e;
     d
 }
@@ -144,7 +144,7 @@ pub fn outcome(c: Core, banks: &[u32; 28], result: u8) -> Core
             let y = looped_frame(x, a);
             let locked = control::rflm(k);
             let e = control::outcome_errors(c.errors, result);
-            d.control = control::noticed(k, c.errors, e, (result != 0) & (result != 7));
+            d.control = control::errors_changed(k, c.errors, e, (result != 0) & (result != 7));
             d.errors = e;
             d.transmit = mailboxes::wire::ended(t, m, result, control::nart(k));
             d.fifo0 = receive::received(Fifo::F0, a, y, locked, c.fifo0);

@@ -8,7 +8,7 @@ use Rattle.model.specs.Base.{pick, bit}
 use Rattle.model.specs.Reception.{malformed}
 use Rattle.model.specs.Control.{isSleep, isInitialization}
 use Rattle.model.specs.Registers.{registerAt, isAbsent, writeRefusal, hasRequest, isFree}
-use Rattle.model.specs.Step.{step, answered, coreAfter, banksAfter, linesOf, refusal, mayStart, mayEnd, mayReceive, faultInRange}
+use Rattle.model.specs.Step.{step, answered, coreAfter, banksAfter, linesOf, refusal, mayStart, mayEnd, mayReceive, receiveErrorInRange}
 use Rattle.model.specs.Codes.{notMapped, writesOutput, isOutput, isLocked, writesLocked, outOfRange, cannotBe, Codes, Refused}
 use Rattle.model.specs.declared.Core.{Core}
 use Rattle.model.specs.declared.Controller.{Controller}
@@ -100,7 +100,7 @@ said c Activity = by-state (isSleep (c .control .mode))
 said c Start = by-state (mayStart c)
 said c (Outcome r) = by-range (ltb 7 r) (mayEnd c r)
 said c (Receive x) = by-range (malformed x) (mayReceive c)
-said c (ReceiveError k n) = in-range (faultInRange k n) (mayReceive c)
+said c (ReceiveError k n) = in-range (receiveErrorInRange k n) (mayReceive c)
 
 -- each code exactly when 01 says
 pub codes : (c : Core) (s : steps.Step) → Codes c s

@@ -21,7 +21,7 @@ unfolding sum classOf matches firstNumber search.first search.searched search.tr
 receiving = tt
 
 unfoldable pub controlling : Unit {0}
-unfolding control.modeNext control.entered control.settled control.controlReset control.masterReset control.mcrWritten control.msrWritten control.ierWritten control.btrWritten control.esrWritten control.msrWord control.esrWord control.statusLine control.counts control.recovers control.counted control.idleMode control.idled control.idleErrors control.ticked control.woken control.outcomeErrors control.receivedErrors control.recPlus control.faultErrors control.noticed
+unfolding control.modeNext control.entered control.settled control.controlReset control.masterReset control.mcrWritten control.msrWritten control.ierWritten control.btrWritten control.esrWritten control.msrWord control.esrWord control.statusLine control.idleCounts control.recovers control.counted control.idleMode control.idled control.idleErrors control.ticked control.woken control.outcomeErrors control.receivedErrors control.recPlus control.receiveErrorCounters control.errorsChanged
 controlling = tt
 
 unfoldable pub mapping : Unit {0}
@@ -29,7 +29,7 @@ unfolding registers.bankWord registers.withBankWord registers.controlRegister re
 mapping = tt
 
 unfoldable pub everything : Unit {0}
-unfolding transmission receiving controlling mapping stepping.mayStart stepping.mayEnd stepping.mayReceive stepping.faultInRange stepping.refusal stepping.wordOf stepping.storedBy stepping.startedBy stepping.loopedBack stepping.endedBy stepping.applied stepping.banksApplied stepping.settled stepping.anyRqcp stepping.linesOf stepping.coreAfter stepping.banksAfter stepping.answered stepping.step
+unfolding transmission receiving controlling mapping stepping.mayStart stepping.mayEnd stepping.mayReceive stepping.receiveErrorInRange stepping.refusal stepping.wordOf stepping.storedBy stepping.startedBy stepping.loopedBack stepping.endedBy stepping.applied stepping.banksApplied stepping.settled stepping.anyRqcp stepping.linesOf stepping.coreAfter stepping.banksAfter stepping.answered stepping.step
 everything = tt
 
 -- what the observer makes of a list

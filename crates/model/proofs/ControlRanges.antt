@@ -6,7 +6,7 @@ use native.Mathlib.Omega.{arith}
 use lib.Dec.{eqb, ltb, leb}
 use borrow.Author.Tests.{ltb-false, leb-false, not-true}
 use Rattle.model.specs.Base.{pick, bit, bits}
-use Rattle.model.specs.Control.{inrq, sleep, ttcm, awum, isSleep, isInitialization, isNormal, boff, modeNext, entered, settled, masterReset, mcrMasked, mcrWritten, msrWritten, ierWritten, btrWritten, esrWritten, counts, recovers, counted, idleMode, idled, idleErrors, ticked, woken, outcomeErrors, receivedErrors, recPlus, faultErrors, noticed}
+use Rattle.model.specs.Control.{inrq, sleep, ttcm, awum, isSleep, isInitialization, isNormal, boff, modeNext, entered, settled, masterReset, mcrMasked, mcrWritten, msrWritten, ierWritten, btrWritten, esrWritten, idleCounts, recovers, counted, idleMode, idled, idleErrors, ticked, woken, outcomeErrors, receivedErrors, recPlus, receiveErrorCounters, errorsChanged}
 use Rattle.model.specs.Reachable.{ControlRange, ErrorRange, RecoveryRange}
 use Rattle.model.specs.declared.Mode.{Mode}
 use Rattle.model.specs.declared.Mode.the-variants.{Sleep, Initialization, Normal}
@@ -89,7 +89,7 @@ module _ (k : Control) (r : ControlRange k) where
   unfolding counted recovers
   counted-recovery e =
       pick-cases (λ (n : ℕ). n < 128) (recovers k e) 0 _ (λ _. omega arith)
-      (λ no. pick-cases (λ (n : ℕ). n < 128) (counts k e) _ _
+      (λ no. pick-cases (λ (n : ℕ). n < 128) (idleCounts k e) _ _
       (λ yes. let few : leb 127 (k .recovery) ≡ false = rw yes at no in
       let f : k .recovery < 127 = leb-false _ _ few in
       omega arith)
@@ -131,9 +131,9 @@ module _ (k : Control) (r : ControlRange k) where
     slaki = r .slaki;
   }
 
-  pub noticed-range : (e d : Errors) (coded : Bool) → ControlRange (noticed k e d coded)
-  unfolding noticed
-  noticed-range e d coded = record {
+  pub errors-changed-range : (e d : Errors) (coded : Bool) → ControlRange (errorsChanged k e d coded)
+  unfolding errorsChanged
+  errors-changed-range e d coded = record {
     mcr = r .mcr;
     ier = r .ier;
     btr = r .btr;
@@ -183,9 +183,9 @@ module _ (e : Errors) (r : ErrorRange e) where
     lec = omega arith;
   }
 
-  pub fault-errors-range : (c n : ℕ) → c ≤ 7 → n ≤ 8 → ErrorRange (faultErrors e c n)
-  unfolding faultErrors recPlus
-  fault-errors-range c n l j = record {
+  pub receive-error-counters-range : (c n : ℕ) → c ≤ 7 → n ≤ 8 → ErrorRange (receiveErrorCounters e c n)
+  unfolding receiveErrorCounters recPlus
+  receive-error-counters-range c n l j = record {
     tec = r .tec;
     rec = pick-cases (λ (x : ℕ). x ≤ 255) (ltb (255 - n) (e .rec)) _ _ (λ _. omega arith) (λ low. let h : e .rec ≤ 255 - n = ltb-false _ _ low in omega arith);
     lec = l;
@@ -216,15 +216,15 @@ module _ (k : Control) (e : Errors) (r : RecoveryRange k e) where
   entered-fresh true h = r .fresh h
   entered-fresh false h = refl
 
-  entered-begins : (b : Bool) → isInitialization (k .mode) ≡ b → boff e ≡ true → (k .initialized || (not b && boff e)) ≡ true
+  entered-begins : (b : Bool) → isInitialization (k .mode) ≡ b → boff e ≡ true → (k .reinitialized || (not b && boff e)) ≡ true
   entered-begins true h off = rw (r .begins h off)
-  entered-begins false h off = rw off (or-true (k .initialized))
+  entered-begins false h off = rw off (or-true (k .reinitialized))
 
   entered-recovery-range : (m : Mode) → RecoveryRange (entered k m (boff e)) e
   unfolding entered
   entered-recovery-range m = record {
     count = λ on. pick-cases (λ (n : ℕ). n ≡ 0) (isInitialization m && not (isInitialization (k .mode))) _ _ (λ _. refl) (λ _. r .count on);
-    initialized = λ on. simp (r .initialized on, on, and-false);
+    reinitialized = λ on. simp (r .reinitialized on, on, and-false);
     fresh = λ h. rw h (entered-fresh (isInitialization (k .mode)) refl);
     begins = λ h off. rw h (entered-begins (isInitialization (k .mode)) refl off);
   }
@@ -234,29 +234,29 @@ module _ (k : Control) (e : Errors) (r : RecoveryRange k e) where
   settled-recovery-range true = entered-recovery-range (modeNext (k .mode) (inrq k) (sleep k))
   settled-recovery-range false = r
 
-  pub noticed-recovery-range : (d : Errors) (coded : Bool) → isNormal (k .mode) ≡ true → boff e ≡ false → RecoveryRange (noticed k e d coded) d
-  unfolding noticed
-  noticed-recovery-range d coded normal on = record {
+  pub errors-changed-recovery-range : (d : Errors) (coded : Bool) → isNormal (k .mode) ≡ true → boff e ≡ false → RecoveryRange (errorsChanged k e d coded) d
+  unfolding errorsChanged
+  errors-changed-recovery-range d coded normal on = record {
     count = λ off. rw off (r .count on);
-    initialized = λ off. rw (r .initialized on);
+    reinitialized = λ off. rw (r .reinitialized on);
     fresh = λ h. opposed normal (not-normal (k .mode) h);
     begins = λ h _. opposed normal (not-normal (k .mode) h);
   }
 
   -- ---- an idle event, with the test whether it ends bus-off
 
-  idled-count : (b : Bool) → ltb 255 (pick b 0 (e .tec)) ≡ false → pick b 0 (pick (counts k e) ((k .recovery + 1) % 2 ^ 8) (k .recovery)) ≡ 0
-  unfolding counts
+  idled-count : (b : Bool) → ltb 255 (pick b 0 (e .tec)) ≡ false → pick b 0 (pick (idleCounts k e) ((k .recovery + 1) % 2 ^ 8) (k .recovery)) ≡ 0
+  unfolding idleCounts
   idled-count true on = refl
   idled-count false on = rw on (r .count on)
 
-  idled-initialized : (b : Bool) → ltb 255 (pick b 0 (e .tec)) ≡ false → (k .initialized && not b) ≡ false
-  idled-initialized true on = and-false (k .initialized)
-  idled-initialized false on = rw (r .initialized on)
+  idled-reinitialized : (b : Bool) → ltb 255 (pick b 0 (e .tec)) ≡ false → (k .reinitialized && not b) ≡ false
+  idled-reinitialized true on = and-false (k .reinitialized)
+  idled-reinitialized false on = rw (r .reinitialized on)
 
   -- it does not count in Initialization
-  not-counted : isInitialization (k .mode) ≡ true → counts k e ≡ false
-  unfolding counts
+  not-counted : isInitialization (k .mode) ≡ true → idleCounts k e ≡ false
+  unfolding idleCounts
   not-counted h = simp (not-normal (k .mode) h, and-false)
 
   not-recovered : isInitialization (k .mode) ≡ true → recovers k e ≡ false
@@ -269,7 +269,7 @@ module _ (k : Control) (e : Errors) (r : RecoveryRange k e) where
       let b : Bool = eqb (k .mcr % 4) 0 in
       record {
         count = λ on. rw (idle-not-init b (k .mode)) (idled-count (recovers k e) on);
-        initialized = λ on. rw (idle-not-init b (k .mode), idled-initialized (recovers k e) on);
+        reinitialized = λ on. rw (idle-not-init b (k .mode), idled-reinitialized (recovers k e) on);
         fresh = λ h. let i : isInitialization (k .mode) ≡ true = idle-was-init b (k .mode) h in
             rw (idle-not-init b (k .mode), not-recovered i, not-counted i) (r .fresh i);
         begins = λ h off. let i : isInitialization (k .mode) ≡ true = idle-was-init b (k .mode) h in

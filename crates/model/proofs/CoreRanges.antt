@@ -39,13 +39,13 @@ module _ (c : Core) (r : CoreRange c) where
   with-fifo-range F1 q qr = record { control = r .control; errors = r .errors; recovery = r .recovery; wire = record { normal = r .wire .normal; on = r .wire .on; heard = r .wire .heard }; transmit = r .transmit; fifo0 = r .fifo0; fifo1 = qr; filters = r .filters }
 
   -- control words change; BTR, the mode and what counts towards recovery do not
-  pub with-words-range : (k : Control) → ControlRange k → k .btr ≡ c .control .btr → k .mode ≡ c .control .mode → k .recovery ≡ c .control .recovery → k .initialized ≡ c .control .initialized
+  pub with-words-range : (k : Control) → ControlRange k → k .btr ≡ c .control .btr → k .mode ≡ c .control .mode → k .recovery ≡ c .control .recovery → k .reinitialized ≡ c .control .reinitialized
       → CoreRange (withControl c k)
   with-words-range k kr b m n i =
       with-errors-range k (c .errors) kr (r .errors)
       (record {
         count = λ on. n ∙ r .recovery .count on;
-        initialized = λ on. i ∙ r .recovery .initialized on;
+        reinitialized = λ on. i ∙ r .recovery .reinitialized on;
         fresh = λ h. n ∙ r .recovery .fresh (sym (ap isInitialization m) ∙ h);
         begins = λ h off. i ∙ r .recovery .begins (sym (ap isInitialization m) ∙ h) off;
       })

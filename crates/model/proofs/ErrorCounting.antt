@@ -9,10 +9,10 @@ use lib.Dec.{eqb, ltb, leb}
 use borrow.Author.Tests.{eqb-true, eqb-false, leb-true, leb-false, le-leb, lt-leb}
 use Rattle.model.specs.Base.{pick, bit, bits, one}
 use Rattle.model.specs.Queue.{isNobody}
-use Rattle.model.specs.Control.{abom, inrq, sleep, isInitialization, isNormal, boff, ewgf, epvf, outcomeErrors, idleErrors, receivedErrors, faultErrors, counts, recovers, counted, idled, idleMode, modeNext, entered, noticed, ticked, woken, controlReset, masterReset, mcrWritten, msrWritten, ierWritten, btrWritten, esrWritten, esrWord}
+use Rattle.model.specs.Control.{abom, inrq, sleep, isInitialization, isNormal, boff, ewgf, epvf, outcomeErrors, idleErrors, receivedErrors, receiveErrorCounters, idleCounts, recovers, counted, idled, idleMode, modeNext, entered, errorsChanged, ticked, woken, controlReset, masterReset, mcrWritten, msrWritten, ierWritten, btrWritten, esrWritten, esrWord}
 use Rattle.model.specs.Control as control
 use Rattle.model.specs.Registers.{registerAt, reset, coreReset, written, isFree}
-use Rattle.model.specs.Step.{step, answered, coreAfter, refusal, applied, settled, storedBy, startedBy, endedBy, mayEnd, mayReceive, faultInRange}
+use Rattle.model.specs.Step.{step, answered, coreAfter, refusal, applied, settled, storedBy, startedBy, endedBy, mayEnd, mayReceive, receiveErrorInRange}
 use Rattle.model.specs.Requests.{after}
 use Rattle.model.specs.Reachable.{InRange}
 use Rattle.model.specs.History.{isDone, ErrorCounts, countedTec, isIdle, isReset, isResetWrite, countsIdle, recovered, tecNext, entersInitialization, zeroesIdles, countsNext, countsFrom}
@@ -97,7 +97,7 @@ last-count n h = go (eqb n 127) refl
 
 -- an accepted step: what an idle event that recovers does, and what any other step does
 idle-recovers : (z : Controller) → InRange z → isDone z Idle ≡ true → recovers (z .core .control) (z .core .errors) ≡ recovered (stored z) z Idle
-unfolding recovers counts
+unfolding recovers idleCounts
 idle-recovers z i h = rw (h, last-count (z .core .control .recovery) (i .core .control .recovery))
 
 wire-taken : (z : Controller) (r : ℕ) → isDone z (Outcome r) ≡ true → Not (isFree (z .core))
@@ -106,7 +106,7 @@ wire-taken z r h = Is-not _ (may-end (z .core) r (end-accepted (ltb 7 r) (mayEnd
 
 applied-tec : (z : Controller) (s : steps.Step) → InRange z → isDone z s ≡ true
     → applied (z .core) (z .banks) s .errors .tec ≡ pick (recovered (stored z) z s) 0 (countedTec s (z .core .errors .tec))
-unfolding applied reset idleErrors receivedErrors faultErrors
+unfolding applied reset idleErrors receivedErrors receiveErrorCounters
 applied-tec z Reset i h = rw h
 applied-tec z (Read o) i h = rw h
 applied-tec z (Write o w) i h = rw h (written-tec (registerAt o) (z .core) w)
@@ -303,8 +303,8 @@ module _ (z : Controller) where
 
   idle-count : InRange z → isDone z Idle ≡ true
       → counted (c .control) (c .errors) .recovery ≡ pick (countsIdle (stored z) z Idle) ((c .control .recovery + 1) % 128) (c .control .recovery)
-  unfolding counted recovers counts
-  idle-count i h = rw h (counted-recovery (counts (c .control) (c .errors)) (leb 127 (c .control .recovery)) (c .control .recovery) (i .core .control .recovery) refl)
+  unfolding counted recovers idleCounts
+  idle-count i h = rw h (counted-recovery (idleCounts (c .control) (c .errors)) (leb 127 (c .control .recovery)) (c .control .recovery) (i .core .control .recovery) refl)
 
   idle-recovery : InRange z → isDone z Idle ≡ true
       → settled idle .control .recovery
@@ -319,7 +319,7 @@ module _ (z : Controller) where
 end-recovery : (v : Sender) (c : Core) (b : List ℕ) (r : ℕ) → Not (isNobody v)
     → (endedBy v c b r .control .mode ≡ c .control .mode)
     × (endedBy v c b r .control .recovery ≡ pick (ltb 255 (endedBy v c b r .errors .tec)) 0 (c .control .recovery))
-unfolding endedBy storedBy noticed
+unfolding endedBy storedBy errorsChanged
 end-recovery Nobody c b r n = absurd (true≢false n)
 end-recovery (From m) c b r n = (refl, refl)
 
@@ -336,14 +336,14 @@ hears-on c h =
     let b : Bool = not (boff (c .errors)) in
     Is-not _ (and-r a b (and-l (a && b) (isFree c) (and-l (a && b && isFree c) (not (control.lbkm (c .control))) (and-l (a && b && isFree c && not (control.lbkm (c .control))) (not (c .filters .finit)) h))))
 
-fault-accepted : (a b : Bool) → eqb (pick a (pick b 0 4) 5) 0 ≡ true → b ≡ true
-fault-accepted true true h = refl
-fault-accepted true false h = absurd (false≢true h)
-fault-accepted false b h = absurd (false≢true h)
+receive-error-accepted : (a b : Bool) → eqb (pick a (pick b 0 4) 5) 0 ≡ true → b ≡ true
+receive-error-accepted true true h = refl
+receive-error-accepted true false h = absurd (false≢true h)
+receive-error-accepted false b h = absurd (false≢true h)
 
-fault-on : (z : Controller) (k n : ℕ) → isDone z (ReceiveError k n) ≡ true → Not (boff (z .core .errors))
+receive-error-on : (z : Controller) (k n : ℕ) → isDone z (ReceiveError k n) ≡ true → Not (boff (z .core .errors))
 unfolding refusal
-fault-on z k n h = hears-on (z .core) (fault-accepted (faultInRange k n) (mayReceive (z .core)) h)
+receive-error-on z k n h = hears-on (z .core) (receive-error-accepted (receiveErrorInRange k n) (mayReceive (z .core)) h)
 
 -- an accepted step
 abbrev Counted : Controller → steps.Step → Type 0
@@ -384,7 +384,7 @@ idle-counted z i h = rw (quiet (ltb 255 (z .core .errors .tec)) (recovered (stor
     quiet x false = not-and (ltb 255 (z .core .errors .tec))
 
 applied-counted : (z : Controller) (s : steps.Step) → InRange z → isDone z s ≡ true → Counted z s
-unfolding applied reset controlReset ticked woken noticed faultErrors receivedErrors storedBy
+unfolding applied reset controlReset ticked woken errorsChanged receiveErrorCounters receivedErrors storedBy
 applied-counted z Reset i h = wiped (reset .core) refl
 applied-counted z (Read o) i h = rw h (unmoved (z .core) (z .core) (z .core .errors .tec) (record { mode = refl; recovery = refl }))
 applied-counted z (Write o w) i h = write-counted z o w (isResetWrite (registerAt o) w) refl h
@@ -395,7 +395,7 @@ applied-counted z Start i h = rw h (unmoved (z .core) (applied (z .core) (z .ban
 applied-counted z (Outcome r) i h = end-counted z r i h
 applied-counted z (Receive x) i h = rw h (unmoved (z .core) (applied (z .core) (z .banks) (Receive x)) (z .core .errors .tec) (record { mode = refl; recovery = refl }))
 applied-counted z (ReceiveError k n) i h =
-    rw h (unmoved (z .core) (applied (z .core) (z .banks) (ReceiveError k n)) (z .core .errors .tec) (record { mode = refl; recovery = ap (λ (b : Bool). pick b 0 (z .core .control .recovery)) (fault-on z k n h) }))
+    rw h (unmoved (z .core) (applied (z .core) (z .banks) (ReceiveError k n)) (z .core .errors .tec) (record { mode = refl; recovery = ap (λ (b : Bool). pick b 0 (z .core .control .recovery)) (receive-error-on z k n h) }))
 
 -- every step
 step-recovery : (z : Controller) (s : steps.Step) → InRange z → step z s .controller .core .control .recovery ≡ countsNext (stored z) z s .idles

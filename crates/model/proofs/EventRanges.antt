@@ -10,10 +10,10 @@ use Rattle.model.specs.Queue.{isEmpty, isNobody, offWire}
 use Rattle.model.specs.Mailboxes.{at, tdtMasked, identifiers, firstOf, started, ended, over}
 use Rattle.model.specs.Search.{acceptance}
 use Rattle.model.specs.Reception.{malformed, storedFrame, sentFrame, fmiOf}
-use Rattle.model.specs.Control.{inrq, sleep, txfp, rflm, modeNext, nart, lbkm, isNormal, boff, idled, idleErrors, ticked, woken, outcomeErrors, receivedErrors, faultErrors, noticed}
+use Rattle.model.specs.Control.{inrq, sleep, txfp, rflm, modeNext, nart, lbkm, isNormal, boff, idled, idleErrors, ticked, woken, outcomeErrors, receivedErrors, receiveErrorCounters, errorsChanged}
 use Rattle.model.specs.Control as control
 use Rattle.model.specs.Registers.{bankCount, isFree, withControl, withErrors, withTransmit}
-use Rattle.model.specs.Step.{mayStart, mayEnd, mayReceive, faultInRange, storedBy, startedBy, loopedBack, endedBy, settled}
+use Rattle.model.specs.Step.{mayStart, mayEnd, mayReceive, receiveErrorInRange, storedBy, startedBy, loopedBack, endedBy, settled}
 use Rattle.model.specs.Reachable.{carried, silent, Followed, MailboxRange, FrameRange, CoreRange}
 use Rattle.model.specs.declared.Mailbox.{Mailbox}
 use Rattle.model.specs.declared.Sender.{Sender}
@@ -31,7 +31,7 @@ use Rattle.model.specs.declared.Acceptance.{Acceptance}
 use Rattle.model.specs.declared.Core.{Core}
 use Rattle.model.proofs.Choices.{pick-cases, and-l, and-r}
 use Rattle.model.proofs.Follows.{first-carried}
-use Rattle.model.proofs.ControlRanges.{settled-range, settled-recovery-range, idled-range, idled-recovery-range, idle-errors-range, ticked-range, woken-range, noticed-range, noticed-recovery-range, outcome-errors-range, received-errors-range, fault-errors-range}
+use Rattle.model.proofs.ControlRanges.{settled-range, settled-recovery-range, idled-range, idled-recovery-range, idle-errors-range, ticked-range, woken-range, errors-changed-range, errors-changed-recovery-range, outcome-errors-range, received-errors-range, receive-error-counters-range}
 use Rattle.model.proofs.MailboxRanges.{started-range, ended-range}
 use Rattle.model.proofs.FifoRanges.{well-formed-range, well-formed-length, sent-range, stored-range, received-range}
 use Rattle.model.proofs.CoreRanges.{free-wire-range, with-errors-range, with-transmit-range, with-words-range}
@@ -111,17 +111,17 @@ unfolding ended offWire
 ended-free t m n nart = pick-cases (λ (q : Queue). isNobody (q .transmitting) ≡ true) (over (t .queue) m n nart) _ _ (λ _. refl) (λ _. refl)
 
 -- a receive error's code and step
-fault-code : (k n : ℕ) → faultInRange k n ≡ true → k ≤ 7
-unfolding faultInRange
-fault-code k n ok = let l : k ≤ 6 = leb-true _ _ (and-r (leb 1 k) (leb k 6) (and-l (leb 1 k && leb k 6) (eqb n 1 || eqb n 8) ok)) in omega arith
+receive-error-code : (k n : ℕ) → receiveErrorInRange k n ≡ true → k ≤ 7
+unfolding receiveErrorInRange
+receive-error-code k n ok = let l : k ≤ 6 = leb-true _ _ (and-r (leb 1 k) (leb k 6) (and-l (leb 1 k && leb k 6) (eqb n 1 || eqb n 8) ok)) in omega arith
 
 step-one-or-eight : (n : ℕ) (b : Bool) → eqb n 1 ≡ b → (b || eqb n 8) ≡ true → n ≤ 8
 step-one-or-eight n true e h = let l : n ≡ 1 = eqb-true _ _ e in omega arith
 step-one-or-eight n false e h = let l : n ≡ 8 = eqb-true _ _ h in omega arith
 
-fault-step : (k n : ℕ) → faultInRange k n ≡ true → n ≤ 8
-unfolding faultInRange
-fault-step k n ok = step-one-or-eight n (eqb n 1) refl (and-r (leb 1 k && leb k 6) (eqb n 1 || eqb n 8) ok)
+receive-error-step : (k n : ℕ) → receiveErrorInRange k n ≡ true → n ≤ 8
+unfolding receiveErrorInRange
+receive-error-step k n ok = step-one-or-eight n (eqb n 1) refl (and-r (leb 1 k && leb k 6) (eqb n 1 || eqb n 8) ok)
 
 module _ (c : Core) (r : CoreRange c) where
   -- ---- idle, bit times, activity
@@ -179,18 +179,18 @@ module _ (c : Core) (r : CoreRange c) where
       with-errors-range (storedBy c a x (c .control .timer))
       (stored-by-range a x (c .control .timer) (stored-range x (fmiOf a) (c .control .timer) (well-formed-range x ok i) l h (well-formed-length x ok) f (r .control .timer)))
       (c .control) (receivedErrors (c .errors)) (r .control) (received-errors-range (c .errors) (r .errors))
-      (record { count = r .recovery .count; initialized = r .recovery .initialized; fresh = r .recovery .fresh; begins = r .recovery .begins })
+      (record { count = r .recovery .count; reinitialized = r .recovery .reinitialized; fresh = r .recovery .fresh; begins = r .recovery .begins })
       (free-wire-range _ (receive-ready c may .free))
 
-  pub receive-error-range : (k n : ℕ) → faultInRange k n ≡ true → mayReceive c ≡ true
-      → CoreRange (withErrors c (noticed (c .control) (c .errors) (faultErrors (c .errors) k n) true) (faultErrors (c .errors) k n))
+  pub receive-error-range : (k n : ℕ) → receiveErrorInRange k n ≡ true → mayReceive c ≡ true
+      → CoreRange (withErrors c (errorsChanged (c .control) (c .errors) (receiveErrorCounters (c .errors) k n) true) (receiveErrorCounters (c .errors) k n))
   receive-error-range k n ok may =
       let y : Ready c = receive-ready c may in
-      let d : Errors = faultErrors (c .errors) k n in
-      with-errors-range c r (noticed (c .control) (c .errors) d true) d
-      (noticed-range (c .control) (r .control) (c .errors) d true)
-      (fault-errors-range (c .errors) (r .errors) k n (fault-code k n ok) (fault-step k n ok))
-      (noticed-recovery-range (c .control) (c .errors) (r .recovery) d true (y .normal) (y .on))
+      let d : Errors = receiveErrorCounters (c .errors) k n in
+      with-errors-range c r (errorsChanged (c .control) (c .errors) d true) d
+      (errors-changed-range (c .control) (r .control) (c .errors) d true)
+      (receive-error-counters-range (c .errors) (r .errors) k n (receive-error-code k n ok) (receive-error-step k n ok))
+      (errors-changed-recovery-range (c .control) (c .errors) (r .recovery) d true (y .normal) (y .on))
       (free-wire-range _ (y .free))
 
   -- ---- an own end
@@ -224,10 +224,10 @@ module _ (c : Core) (r : CoreRange c) where
       with-errors-range (withTransmit s t)
       (with-transmit-range s (stored-by-range a (sentFrame x) (x .tdt / 65536) (looped-frame-range a m (looped-back-fmi v m n small)))
       t (ended-range (c .transmit) (r .transmit) m n (nart (c .control)) e) (free-wire-range _ (ended-free (c .transmit) m n (nart (c .control)))))
-      (noticed (c .control) (c .errors) d coded) d
-      (noticed-range (c .control) (r .control) (c .errors) d coded)
+      (errorsChanged (c .control) (c .errors) d coded) d
+      (errors-changed-range (c .control) (r .control) (c .errors) d coded)
       (outcome-errors-range (c .errors) (r .errors) n l (r .wire .on busy))
-      (noticed-recovery-range (c .control) (c .errors) (r .recovery) d coded (r .wire .normal busy) (r .wire .on busy))
+      (errors-changed-recovery-range (c .control) (c .errors) (r .recovery) d coded (r .wire .normal busy) (r .wire .on busy))
       (free-wire-range _ (ended-free (c .transmit) m n (nart (c .control))))
 
   pub end-range : (v : List ℕ) (n : ℕ) → ((w : ℕ) → fmiOf (acceptance bankCount (c .filters) v w) < 4 * bankCount) → ltb 7 n ≡ false → mayEnd c n ≡ true

@@ -10,10 +10,10 @@ use Rattle.model.specs.Base.{pick, bit, bits}
 use Rattle.model.specs.Queue.{number, numbered, senderNumber, same, holds, oldest, isFrom, isNobody, isEmpty, noRequests, requested, sending, offWire}
 use Rattle.model.specs.Mailboxes.{firstInWireOrder, sooner, before, first, firstOf, identifiers, requestedBy, tsrWritten, started, ended, over}
 use Rattle.model.specs.Reception.{malformed}
-use Rattle.model.specs.Control.{nart, txfp, awum, silm, lbkm, isNormal, isSleep, boff, mcrMasked, sleepCleared, entered, counted, idled, ticked, woken, noticed, controlReset, masterReset, mcrWritten, msrWritten, ierWritten, btrWritten}
+use Rattle.model.specs.Control.{nart, txfp, awum, silm, lbkm, isNormal, isSleep, boff, mcrMasked, sleepCleared, entered, counted, idled, ticked, woken, errorsChanged, controlReset, masterReset, mcrWritten, msrWritten, ierWritten, btrWritten}
 use Rattle.model.specs.Control as control
 use Rattle.model.specs.Registers.{registerAt, reset, coreReset, written, writeRefusal, isFree, hasRequest, withControl, withTransmit, isAbsent}
-use Rattle.model.specs.Step.{step, answered, coreAfter, refusal, wordOf, applied, settled, storedBy, startedBy, endedBy, mayStart, mayEnd, mayReceive, faultInRange}
+use Rattle.model.specs.Step.{step, answered, coreAfter, refusal, wordOf, applied, settled, storedBy, startedBy, endedBy, mayStart, mayEnd, mayReceive, receiveErrorInRange}
 use Rattle.model.specs.Reachable.{carried}
 use Rattle.model.specs.Requests.{Event, nothing, drops, modes, accepts, aborts, starts, ends, writeEvent, stepEvent, startWord, event, entry}
 use Rattle.model.specs.declared.Mailbox.{Mailbox}
@@ -237,7 +237,7 @@ start-does (From m) c e k =
 -- ---- own end
 
 end-does : (v : Sender) (c : Core) (b : List ℕ) (r : ℕ) → c .transmit .queue .transmitting ≡ v → Is (not (isNobody v)) → Does c (endedBy v c b r) (ends (eqb r 0))
-unfolding endedBy ended over noticed storedBy
+unfolding endedBy ended over errorsChanged storedBy
 end-does Nobody c b r e k = absurd (false≢true k)
 end-does (From m) c b r e k = record {
   view = sym (ap (λ (v : Sender). offView v (viewOf c) (eqb r 0)) e);
@@ -264,7 +264,7 @@ unfolding mayEnd
 may-end c r h = and-l (not (isFree c)) (not (eqb r 3 && lbkm (c .control))) h
 
 applied-does : (c : Core) (b : List ℕ) (s : steps.Step) → eqb (refusal c s) 0 ≡ true → Does c (applied c b s) (stepEvent s (startWord s (wordOf c b s)))
-unfolding applied refusal wordOf idled entered counted ticked noticed storedBy
+unfolding applied refusal wordOf idled entered counted ticked errorsChanged storedBy
 applied-does c b Reset h = reset-does c
 applied-does c b (Read o) h = still c c refl
 applied-does c b (Write o w) h = written-does (registerAt o) c w h

@@ -10,7 +10,7 @@ use Rattle.model.specs.Search.{acceptance}
 use Rattle.model.specs.Reception.{malformed, fmiOf}
 use Rattle.model.specs.Control.{modeNext, controlReset}
 use Rattle.model.specs.Registers.{bankCount, isFree, registerAt, reset}
-use Rattle.model.specs.Step.{mayStart, mayEnd, mayReceive, faultInRange, refusal, applied, banksApplied, coreAfter, banksAfter, answered, step}
+use Rattle.model.specs.Step.{mayStart, mayEnd, mayReceive, receiveErrorInRange, refusal, applied, banksApplied, coreAfter, banksAfter, answered, step}
 use Rattle.model.specs.Requests.{after}
 use Rattle.model.specs.Mailboxes.{at}
 use Rattle.model.specs.Reachable.{MailboxRange, Words, CoreRange, Followed, InRange, StepRange, StepsRange}
@@ -40,7 +40,7 @@ unfolding reset controlReset
 reset-core-range = record {
   control = record { mcr = refl; ier = refl; btr = refl; timer = omega arith; stopped = λ _. refl; recovery = omega arith; slaki = λ _. refl };
   errors = record { tec = omega arith; rec = omega arith; lec = omega arith };
-  recovery = record { count = λ _. refl; initialized = λ _. refl; fresh = λ _. refl; begins = λ h _. absurd (false≢true h) };
+  recovery = record { count = λ _. refl; reinitialized = λ _. refl; fresh = λ _. refl; begins = λ h _. absurd (false≢true h) };
   wire = free-wire-range (reset .core) refl;
   transmit = record { queue = no-requests-range; mailboxes = empty; pending = λ m h. absurd (false≢true h) };
   fifo0 = empty-fifo-range;
@@ -108,7 +108,7 @@ applied-range c v (Receive x) r l h =
     let k = refused-if (malformed x) 5 _ refl h in
     receive-range c r _ x (fmi-range (c .filters) v (x .identifier)) (l .0) (l .1) (l .2) (k .0) (refused-unless (mayReceive c) 0 4 refl (k .1) .0)
 applied-range c v (ReceiveError e n) r l h =
-    let k = refused-unless (faultInRange e n) _ 5 refl h in
+    let k = refused-unless (receiveErrorInRange e n) _ 5 refl h in
     receive-error-range c r e n (k .0) (refused-unless (mayReceive c) 0 4 refl (k .1) .0)
 
 pub step-in-range : (z : Controller) (s : Step) → InRange z → StepRange s → InRange (step z s .controller)

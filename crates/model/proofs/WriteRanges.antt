@@ -74,7 +74,7 @@ module _ (c : Core) (r : CoreRange c) where
   core-reset-range = record {
     control = master-reset-range (c .control) (r .control);
     errors = r .errors;
-    recovery = record { count = λ _. refl; initialized = r .recovery .initialized; fresh = λ _. refl; begins = λ h _. absurd (false≢true h) };
+    recovery = record { count = λ _. refl; reinitialized = r .recovery .reinitialized; fresh = λ _. refl; begins = λ h _. absurd (false≢true h) };
     wire = free-wire-range (coreReset c) refl;
     transmit = dropped-range (c .transmit) (r .transmit);
     fifo0 = empty-fifo-range;
@@ -105,14 +105,14 @@ module _ (c : Core) (r : CoreRange c) where
   unfolding written btrWritten
   btr-core-range w h =
       with-errors-range c r (btrWritten (c .control) w) (c .errors) (btr-written-range (c .control) (r .control) w) (r .errors)
-      (record { count = r .recovery .count; initialized = r .recovery .initialized; fresh = r .recovery .fresh; begins = r .recovery .begins })
+      (record { count = r .recovery .count; reinitialized = r .recovery .reinitialized; fresh = r .recovery .fresh; begins = r .recovery .begins })
       (free-wire-range _ (initialization-free (isFree c) refl h))
 
   esr-core-range : (w : ℕ) → CoreRange (written Esr c w)
   unfolding written esrWritten
   esr-core-range w =
       with-errors-range c r (c .control) (esrWritten (c .errors) w) (r .control) (esr-written-range (c .errors) (r .errors) w)
-      (record { count = r .recovery .count; initialized = r .recovery .initialized; fresh = r .recovery .fresh; begins = r .recovery .begins })
+      (record { count = r .recovery .count; reinitialized = r .recovery .reinitialized; fresh = r .recovery .fresh; begins = r .recovery .begins })
       (record { normal = r .wire .normal; on = r .wire .on; heard = r .wire .heard })
 
   tsr-core-range : (w : ℕ) → CoreRange (written Tsr c w)

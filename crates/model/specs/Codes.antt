@@ -9,7 +9,7 @@ use Rattle.model.specs.Queue.{number}
 use Rattle.model.specs.Reception.{malformed}
 use Rattle.model.specs.Control.{isSleep, isInitialization}
 use Rattle.model.specs.Registers.{registerAt, isAbsent, bankCount, hasRequest, isFree}
-use Rattle.model.specs.Step.{step, linesOf, refusal, mayStart, mayEnd, mayReceive, faultInRange}
+use Rattle.model.specs.Step.{step, linesOf, refusal, mayStart, mayEnd, mayReceive, receiveErrorInRange}
 use Rattle.model.specs.declared.Mailbox.{Mailbox}
 use Rattle.model.specs.declared.Fifo.{Fifo}
 use Rattle.model.specs.declared.Fifo.the-variants.{F0, F1}
@@ -196,7 +196,7 @@ outOfRange Activity = false
 outOfRange Start = false
 outOfRange (Outcome r) = ltb 7 r
 outOfRange (Receive x) = malformed x
-outOfRange (ReceiveError k n) = not (faultInRange k n)
+outOfRange (ReceiveError k n) = not (receiveErrorInRange k n)
 
 -- 4: event that the state can't have
 abbrev pub cannotBe : steps.Step → Core → Bool

@@ -91,7 +91,7 @@ entered k m off = record {
   timer = k .timer;
   mode = m;
   recovery = pick (isInitialization m && not (isInitialization (k .mode))) 0 (k .recovery);
-  initialized = k .initialized || (isInitialization m && not (isInitialization (k .mode)) && off);
+  reinitialized = k .reinitialized || (isInitialization m && not (isInitialization (k .mode)) && off);
   erri = k .erri;
   wkui = k .wkui;
   slaki = pick (isSleep m) (k .slaki || (not (isSleep (k .mode)) && bit 17 (k .ier))) (k .slaki && not (isSleep (k .mode)));
@@ -111,7 +111,7 @@ controlReset = record {
   timer = 0;
   mode = Sleep;
   recovery = 0;
-  initialized = false;
+  reinitialized = false;
   erri = false;
   wkui = false;
   slaki = false;
@@ -126,7 +126,7 @@ masterReset k = record {
   timer = 0;
   mode = Sleep;
   recovery = 0;
-  initialized = k .initialized;
+  reinitialized = k .reinitialized;
   erri = false;
   wkui = false;
   slaki = false;
@@ -144,10 +144,10 @@ abbrev pub btrMasked : ℕ → ℕ
 btrMasked w = bits 30 2 w * 2 ^ 30 + bits 24 2 w * 2 ^ 24 + bits 16 7 w * 65536 + w % 1024
 
 abbrev pub withWords : Control → ℕ → ℕ → ℕ → ℕ → Control
-withWords k m i b t = record { mcr = m; ier = i; btr = b; timer = t; mode = k .mode; recovery = k .recovery; initialized = k .initialized; erri = k .erri; wkui = k .wkui; slaki = k .slaki }
+withWords k m i b t = record { mcr = m; ier = i; btr = b; timer = t; mode = k .mode; recovery = k .recovery; reinitialized = k .reinitialized; erri = k .erri; wkui = k .wkui; slaki = k .slaki }
 
 abbrev pub withFlags : Control → Bool → Bool → Bool → Control
-withFlags k e w s = record { mcr = k .mcr; ier = k .ier; btr = k .btr; timer = k .timer; mode = k .mode; recovery = k .recovery; initialized = k .initialized; erri = e; wkui = w; slaki = s }
+withFlags k e w s = record { mcr = k .mcr; ier = k .ier; btr = k .btr; timer = k .timer; mode = k .mode; recovery = k .recovery; reinitialized = k .reinitialized; erri = e; wkui = w; slaki = s }
 
 -- while TTCM=0 the timer is 0
 unfoldable pub mcrWritten : Control → ℕ → Control
@@ -187,11 +187,11 @@ abbrev pub lessOne : ℕ → ℕ
 lessOne n = n - 1
 
 -- idle: it counts in bus-off and Normal, with ABOM=1 or Initialization entered since bus-off; the 128th ends bus-off
-unfoldable pub counts : Control → Errors → Bool
-counts k e = boff e && isNormal (k .mode) && (abom k || k .initialized)
+unfoldable pub idleCounts : Control → Errors → Bool
+idleCounts k e = boff e && isNormal (k .mode) && (abom k || k .reinitialized)
 
 unfoldable pub recovers : Control → Errors → Bool
-recovers k e = counts k e && leb 127 (k .recovery)
+recovers k e = idleCounts k e && leb 127 (k .recovery)
 
 unfoldable pub counted : Control → Errors → Control
 counted k e = record {
@@ -200,8 +200,8 @@ counted k e = record {
   btr = k .btr;
   timer = k .timer;
   mode = k .mode;
-  recovery = pick (recovers k e) 0 (pick (counts k e) ((k .recovery + 1) % 2 ^ 8) (k .recovery));
-  initialized = k .initialized && not (recovers k e);
+  recovery = pick (recovers k e) 0 (pick (idleCounts k e) ((k .recovery + 1) % 2 ^ 8) (k .recovery));
+  reinitialized = k .reinitialized && not (recovers k e);
   erri = k .erri;
   wkui = k .wkui;
   slaki = k .slaki;
@@ -244,20 +244,20 @@ receivedErrors e = record { tec = e .tec; rec = pick (ltb 128 (e .rec)) 120 (les
 unfoldable pub recPlus : ℕ → ℕ → ℕ
 recPlus x n = pick (ltb (255 - n) x) 255 (x + n)
 
-unfoldable pub faultErrors : Errors → ℕ → ℕ → Errors
-faultErrors e k n = record { tec = e .tec; rec = recPlus (e .rec) n; lec = k }
+unfoldable pub receiveErrorCounters : Errors → ℕ → ℕ → Errors
+receiveErrorCounters e k n = record { tec = e .tec; rec = recPlus (e .rec) n; lec = k }
 
 -- the counters go from e to d; coded: the event puts 1 to 6 in LEC. ERRI is set when EWGF, EPVF or BOFF rises with its
 -- enable set, or with LECIE by the code; bus-off zeroes the recovery count, and Initialization was not entered since
-unfoldable pub noticed : Control → Errors → Errors → Bool → Control
-noticed k e d coded = record {
+unfoldable pub errorsChanged : Control → Errors → Errors → Bool → Control
+errorsChanged k e d coded = record {
   mcr = k .mcr;
   ier = k .ier;
   btr = k .btr;
   timer = k .timer;
   mode = k .mode;
   recovery = pick (boff d) 0 (k .recovery);
-  initialized = k .initialized && not (boff d);
+  reinitialized = k .reinitialized && not (boff d);
   erri = k .erri
       || (bit 8 (k .ier) && ewgf d && not (ewgf e))
       || (bit 9 (k .ier) && epvf d && not (epvf e))

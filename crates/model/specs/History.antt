@@ -186,7 +186,7 @@ isReset (ReceiveError k n) = false
 
 -- an idle event that counts towards recovery: in bus-off and Normal, with ABOM=1 or Initialization entered since bus-off
 abbrev pub countsIdle : ErrorCounts → Controller → steps.Step → Bool
-countsIdle a z s = isDone z s && isIdle s && ltb 255 (a .tec) && isNormal (z .core .control .mode) && (abom (z .core .control) || z .core .control .initialized)
+countsIdle a z s = isDone z s && isIdle s && ltb 255 (a .tec) && isNormal (z .core .control .mode) && (abom (z .core .control) || z .core .control .reinitialized)
 
 abbrev pub recovered : ErrorCounts → Controller → steps.Step → Bool
 recovered a z s = countsIdle a z s && eqb (a .idles) 127

@@ -130,9 +130,9 @@ pub record ErrorRange (e : Errors) : Type 0 where
 -- out of bus-off nothing counts towards recovery; in Initialization the count is 0, and the recovery from bus-off may begin
 pub record RecoveryRange (k : Control) (e : Errors) : Type 0 where
   pub count : boff e ≡ false → k .recovery ≡ 0
-  pub initialized : boff e ≡ false → k .initialized ≡ false
+  pub reinitialized : boff e ≡ false → k .reinitialized ≡ false
   pub fresh : isInitialization (k .mode) ≡ true → k .recovery ≡ 0
-  pub begins : isInitialization (k .mode) ≡ true → boff e ≡ true → k .initialized ≡ true
+  pub begins : isInitialization (k .mode) ≡ true → boff e ≡ true → k .reinitialized ≡ true
 
 -- SILM=1 with LBKM=0: nothing is sent
 abbrev pub silent : Control → Bool

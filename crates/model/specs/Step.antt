@@ -10,7 +10,7 @@ use Rattle.model.specs.Queue.{isEmpty, senderNumber}
 use Rattle.model.specs.Mailboxes.{at, firstOf, started, ended}
 use Rattle.model.specs.Search.{acceptance}
 use Rattle.model.specs.Reception.{malformed, storedFrame, sentFrame, received, fmiOf, fifoLine}
-use Rattle.model.specs.Control.{txfp, rflm, nart, lbkm, silm, isSleep, isNormal, boff, idled, idleErrors, ticked, woken, outcomeErrors, receivedErrors, faultErrors, noticed, statusLine}
+use Rattle.model.specs.Control.{txfp, rflm, nart, lbkm, silm, isSleep, isNormal, boff, idled, idleErrors, ticked, woken, outcomeErrors, receivedErrors, receiveErrorCounters, errorsChanged, statusLine}
 use Rattle.model.specs.Control as control
 use Rattle.model.specs.Registers.{registerAt, isAbsent, bankCount, reset, written, banksWritten, writeRefusal, readWord, isFree, withControl, withErrors, withTransmit}
 use Rattle.model.specs.declared.Sender.{Sender}
@@ -43,8 +43,8 @@ unfoldable pub mayReceive : Core → Bool
 mayReceive c = isNormal (c .control .mode) && not (boff (c .errors)) && isFree c && not (lbkm (c .control)) && not (c .filters .finit)
 
 -- a receive error has a code 1 to 6 and a step 1 or 8
-unfoldable pub faultInRange : ℕ → ℕ → Bool
-faultInRange k n = leb 1 k && leb k 6 && (eqb n 1 || eqb n 8)
+unfoldable pub receiveErrorInRange : ℕ → ℕ → Bool
+receiveErrorInRange k n = leb 1 k && leb k 6 && (eqb n 1 || eqb n 8)
 
 unfoldable pub refusal : Core → steps.Step → ℕ
 refusal c Reset = 0
@@ -56,7 +56,7 @@ refusal c Activity = pick (isSleep (c .control .mode)) 0 4
 refusal c Start = pick (mayStart c) 0 4
 refusal c (Outcome r) = pick (ltb 7 r) 5 (pick (mayEnd c r) 0 4)
 refusal c (Receive x) = pick (malformed x) 5 (pick (mayReceive c) 0 4)
-refusal c (ReceiveError k n) = pick (faultInRange k n) (pick (mayReceive c) 0 4) 5
+refusal c (ReceiveError k n) = pick (receiveErrorInRange k n) (pick (mayReceive c) 0 4) 5
 
 -- ---- the word of an accepted step: 0 but for a read and a start
 
@@ -102,7 +102,7 @@ endedBy (From m) c v r =
     withTransmit
     (withErrors
     (storedBy c (loopedBack c v m r) (sentFrame (at (c .transmit .mailboxes) m)) (at (c .transmit .mailboxes) m .tdt / 65536))
-    (noticed (c .control) (c .errors) (outcomeErrors (c .errors) r) (not (eqb r 0) && not (eqb r 7)))
+    (errorsChanged (c .control) (c .errors) (outcomeErrors (c .errors) r) (not (eqb r 0) && not (eqb r 7)))
     (outcomeErrors (c .errors) r))
     (ended (c .transmit) m r (nart (c .control)))
 
@@ -122,7 +122,7 @@ applied c v (Receive x) =
     (c .control)
     (receivedErrors (c .errors))
 applied c v (ReceiveError k n) =
-    withErrors c (noticed (c .control) (c .errors) (faultErrors (c .errors) k n) true) (faultErrors (c .errors) k n)
+    withErrors c (errorsChanged (c .control) (c .errors) (receiveErrorCounters (c .errors) k n) true) (receiveErrorCounters (c .errors) k n)
 
 unfoldable pub banksApplied : List ℕ → steps.Step → List ℕ
 banksApplied v Reset = reset .banks

@@ -156,7 +156,7 @@ pub struct Control {
     pub timer: u16,
     pub mode: Mode,
     pub recovery: u8,
-    pub initialized: bool,
+    pub reinitialized: bool,
     pub erri: bool,
     pub wkui: bool,
     pub slaki: bool,

@@ -56,8 +56,8 @@ pub fn may_receive(c: Core) -> bool
     control::is_normal(m) & !control::boff(e) & is_free(c) & !control::lbkm(k) & !g.finit
 }
 
-pub fn fault_in_range(k: u8, n: u8) -> bool
-    ensures { λ r. ⌜ r ≡ stepping.faultInRange k n ⌝ }
+pub fn receive_error_in_range(k: u8, n: u8) -> bool
+    ensures { λ r. ⌜ r ≡ stepping.receiveErrorInRange k n ⌝ }
 {
     (1 <= k) & (k <= 6) & ((n == 1) | (n == 8))
 }
@@ -127,7 +127,7 @@ pub fn refusal_at(c: Core, e: Step, g: Register) -> u8
             bits::pick_u8(may_receive(c), 0, 4)
         }
         Step::ReceiveError(k, n) => {
-            if fault_in_range(k, n) {
+            if receive_error_in_range(k, n) {
                 return bits::pick_u8(may_receive(c), 0, 4);
             }
             5

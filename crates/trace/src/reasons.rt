@@ -129,7 +129,7 @@ fn of_frame(v: View, x: Frame) -> u32 {
 }
 
 fn of_error(v: View, k: u8, n: u8) -> u32 {
-    if refusals::fault_in_range(k, n) {
+    if refusals::receive_error_in_range(k, n) {
         return of_reception(v);
     }
     bits::pick_u32((n == 1) | (n == 8), ERROR_CODE, ERROR_STEP)

@@ -9,8 +9,8 @@ recovers-requires c κs = search needs
 wrapping-add-u8-requires : tie.Need-wrapping-add-u8-requires
 wrapping-add-u8-requires c κs = search needs
 
-counts-requires : tie.Need-counts-requires
-counts-requires c κs = search needs
+idle-counts-requires : tie.Need-idle-counts-requires
+idle-counts-requires c κs = search needs
 
 pick-u8-requires : tie.Need-pick-u8-requires
 pick-u8-requires c κs = search needs
@@ -23,7 +23,7 @@ same-control-requires c κs = search needs
 
 returns : tie.Need-returns
 unfolding counted
-returns c = simp (c .same-control .ensures, c .before .before .pick-u82 .ensures, c .before .before .before .pick-u8 .ensures, c .before .before .before .before .counts .ensures, c .before .before .before .before .before .wrapping-add-u8 .ensures, c .before .before .before .before .before .before .recovers .ensures)
+returns c = simp (c .same-control .ensures, c .before .before .pick-u82 .ensures, c .before .before .before .pick-u8 .ensures, c .before .before .before .before .idle-counts .ensures, c .before .before .before .before .before .wrapping-add-u8 .ensures, c .before .before .before .before .before .before .recovers .ensures)
 
 pub counted-spec : {M : Type 1} → statement M
 counted-spec =
@@ -31,7 +31,7 @@ counted-spec =
     (tie.spec
     recovers-requires
     wrapping-add-u8-requires
-    counts-requires
+    idle-counts-requires
     pick-u8-requires
     pick-u8-requires-2
     same-control-requires

@@ -27,8 +27,8 @@ rflm-requires c κs = search needs
 outcome-errors-requires : tie.Need-outcome-errors-requires
 outcome-errors-requires c κs = search needs
 
-noticed-requires : tie.Need-noticed-requires
-noticed-requires c κs = search needs
+errors-changed-requires : tie.Need-errors-changed-requires
+errors-changed-requires c κs = search needs
 
 nart-requires : tie.Need-nart-requires
 nart-requires c κs = search needs
@@ -52,7 +52,7 @@ returns-2 c =
     let a = c .before .before .before .before .before .before .before .before .before .before .before .before .before .before .before .before .before .args in
     let m = c .before .before .before .before .before .before .before .before .before .before .before .before .s .given .0 .0 in
     let same : endedBy (From m) (a .c) (a .banks .now) (a .result) ≡ endedBy (a .c .transmit .queue .transmitting) (a .c) (a .banks .now) (a .result) = ap (λ (s : Sender). endedBy s (a .c) (a .banks .now) (a .result)) (sym (c .before .before .before .before .before .before .before .before .before .before .before .before .s .given .1)) in
-    (rw (c .received2 .ensures, c .before .received .ensures, c .before .before .ended .ensures, c .before .before .before .nart .ensures, c .before .before .before .before .noticed .ensures, c .before .before .before .before .before .outcome-errors .ensures, c .before .before .before .before .before .before .rflm .ensures, c .before .before .before .before .before .before .before .looped-frame .ensures, c .before .before .before .before .before .before .before .before .looped-back .ensures, c .before .before .before .before .before .before .before .before .before .at .ensures)) ∙ same
+    (rw (c .received2 .ensures, c .before .received .ensures, c .before .before .ended .ensures, c .before .before .before .nart .ensures, c .before .before .before .before .errors-changed .ensures, c .before .before .before .before .before .outcome-errors .ensures, c .before .before .before .before .before .before .rflm .ensures, c .before .before .before .before .before .before .before .looped-frame .ensures, c .before .before .before .before .before .before .before .before .looped-back .ensures, c .before .before .before .before .before .before .before .before .before .at .ensures)) ∙ same
 
 pub outcome-spec : {M : Type 1} → statement M
 outcome-spec =
@@ -65,7 +65,7 @@ outcome-spec =
     looped-frame-requires
     rflm-requires
     outcome-errors-requires
-    noticed-requires
+    errors-changed-requires
     nart-requires
     ended-requires
     received-requires

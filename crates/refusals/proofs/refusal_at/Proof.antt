@@ -88,8 +88,8 @@ pick-u8-requires-7 c κs = search needs
 enum-known-e-4 : tie.Need-enum-known-e-4
 enum-known-e-4 c = search needs
 
-fault-in-range-requires : tie.Need-fault-in-range-requires
-fault-in-range-requires c κs = search needs
+receive-error-in-range-requires : tie.Need-receive-error-in-range-requires
+receive-error-in-range-requires c κs = search needs
 
 may-receive-requires-2 : tie.Need-may-receive-requires-2
 may-receive-requires-2 c κs = search needs
@@ -99,7 +99,7 @@ pick-u8-requires-8 c κs = search needs
 
 returns-3 : tie.Need-returns-3
 unfolding refusalAt refusal
-returns-3 c = simp (c .pick-u88 .ensures, c .before .may-receive2 .ensures, c .before .before .if3 .taken, ← (c .before .before .before .fault-in-range .ensures), c .before .before .before .before .before .e4 .given .1)
+returns-3 c = simp (c .pick-u88 .ensures, c .before .may-receive2 .ensures, c .before .before .if3 .taken, ← (c .before .before .before .receive-error-in-range .ensures), c .before .before .before .before .before .e4 .given .1)
 
 returns-4 : tie.Need-returns-4
 unfolding refusalAt refusal
@@ -139,7 +139,7 @@ returns-12 c = simp (c .pick-u87 .ensures, c .before .may-receive .ensures, c .b
 
 returns-13 : tie.Need-returns-13
 unfolding refusalAt refusal
-returns-13 c = simp (c .if3 .left, ← (c .before .fault-in-range .ensures), c .before .before .before .e4 .given .1)
+returns-13 c = simp (c .if3 .left, ← (c .before .receive-error-in-range .ensures), c .before .before .before .e4 .given .1)
 
 pub refusal-at-spec : {M : Type 1} → statement M
 refusal-at-spec =
@@ -172,7 +172,7 @@ refusal-at-spec =
     may-receive-requires
     pick-u8-requires-7
     enum-known-e-4
-    fault-in-range-requires
+    receive-error-in-range-requires
     may-receive-requires-2
     pick-u8-requires-8
     returns-3

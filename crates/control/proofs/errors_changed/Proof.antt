@@ -1,7 +1,7 @@
-use Rattle.model.specs.Control.{noticed}
+use Rattle.model.specs.Control.{errorsChanged}
 use borrow.Author.Needs.{needs}
-use Rattle.control.proofs.noticed.Statement.{statement}
-use Rattle.control.proofs.noticed.Tie as tie
+use Rattle.control.proofs.errors_changed.Statement.{statement}
+use Rattle.control.proofs.errors_changed.Tie as tie
 
 boff-requires : tie.Need-boff-requires
 boff-requires c κs = search needs
@@ -37,11 +37,11 @@ pick-u8-requires : tie.Need-pick-u8-requires
 pick-u8-requires c κs = search needs
 
 returns : tie.Need-returns
-unfolding noticed
+unfolding errorsChanged
 returns c = simp (c .before .pick-u8 .ensures, c .before .before .bit4 .ensures, c .before .before .before .boff2 .ensures, c .before .before .before .before .bit3 .ensures, c .before .before .before .before .before .epvf2 .ensures, c .before .before .before .before .before .before .epvf .ensures, c .before .before .before .before .before .before .before .bit2 .ensures, c .before .before .before .before .before .before .before .before .before .ewgf2 .ensures, c .before .before .before .before .before .before .before .before .before .before .ewgf .ensures, c .before .before .before .before .before .before .before .before .before .before .before .bit .ensures, c .before .before .before .before .before .before .before .before .before .before .before .before .boff .ensures)
 
-pub noticed-spec : {M : Type 1} → statement M
-noticed-spec =
+pub errors-changed-spec : {M : Type 1} → statement M
+errors-changed-spec =
     tie.close
     (tie.spec
     boff-requires

@@ -1,7 +1,7 @@
-use Rattle.model.specs.Control.{counts}
+use Rattle.model.specs.Control.{idleCounts}
 use borrow.Author.Needs.{needs}
-use Rattle.control.proofs.counts.Statement.{statement}
-use Rattle.control.proofs.counts.Tie as tie
+use Rattle.control.proofs.idle_counts.Statement.{statement}
+use Rattle.control.proofs.idle_counts.Tie as tie
 
 boff-requires : tie.Need-boff-requires
 boff-requires c κs = search needs
@@ -13,8 +13,8 @@ abom-requires : tie.Need-abom-requires
 abom-requires c κs = search needs
 
 returns : tie.Need-returns
-unfolding counts
+unfolding idleCounts
 returns c = simp (c .before .abom .ensures, c .before .before .is-normal .ensures, c .before .before .before .boff .ensures)
 
-pub counts-spec : {M : Type 1} → statement M
-counts-spec = tie.close (tie.spec boff-requires is-normal-requires abom-requires returns)
+pub idle-counts-spec : {M : Type 1} → statement M
+idle-counts-spec = tie.close (tie.spec boff-requires is-normal-requires abom-requires returns)
