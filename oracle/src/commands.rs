@@ -11,7 +11,7 @@ use crate::shrink;
 use crate::USAGE;
 use std::fs::File;
 use std::io::{self, Read, Write};
-use std::os::fd::AsFd;
+use std::os::unix::io::AsFd;
 
 const READ_TO_THE_END: u8 = 0;
 const DEMAND_VIOLATED: u8 = 1;
@@ -178,7 +178,10 @@ fn check() -> Status {
             say_unreadable(&script[place..], record, place);
             break UNREADABLE_RECORD;
         }
-        let Ok((step, _)) = decode(&script[place..]) else { break UNREADABLE_RECORD };
+        let step = match decode(&script[place..]) {
+            Ok((step, _)) => step,
+            Err(_) => break UNREADABLE_RECORD,
+        };
         let kept = requests.feed(record, step, progress.answer).and_then(|()| requests.check_tme(tsr_of(&controller)));
         if let Err(violation) = kept {
             eprintln!("record {} at byte {place} ({}): {violation}", record + 1, step.in_words());

@@ -772,9 +772,12 @@ impl Controller {
             here!();
             return Err(Refusal::WrongState);
         }
-        let Some(x) = self.transmitter.first(self.request_order()) else {
-            here!();
-            return Err(Refusal::WrongState);
+        let x = match self.transmitter.first(self.request_order()) {
+            Some(x) => x,
+            None => {
+                here!();
+                return Err(Refusal::WrongState);
+            }
         };
         remember(Slot::NartAtStart, self.option(mcr::NART));
         remember(Slot::FinitAtStart, self.filters.initializing);
@@ -792,9 +795,12 @@ impl Controller {
             here!();
             return Err(Refusal::OutOfRange);
         }
-        let Some(x) = self.transmitter.on_wire() else {
-            here!();
-            return Err(Refusal::WrongState);
+        let x = match self.transmitter.on_wire() {
+            Some(x) => x,
+            None => {
+                here!();
+                return Err(Refusal::WrongState);
+            }
         };
         if result == 3 && self.is_loopback() && !made(Mistake::AckErrorInLoopback)
             || result == 7 && self.is_loopback() && made(Mistake::LostRefusedInLoopback)
@@ -930,9 +936,12 @@ impl Controller {
 
     /// Passes a frame through the filters; true if one takes it.
     fn filter_and_store(&mut self, frame: Frame, time: u16) -> bool {
-        let Some(hit) = self.filters.search(frame.identifier) else {
-            here!();
-            return false;
+        let hit = match self.filters.search(frame.identifier) {
+            Some(hit) => hit,
+            None => {
+                here!();
+                return false;
+            }
         };
         let stored = frame.as_stored(hit.number, time);
         self.fifos[hit.fifo].store(stored, self.option(mcr::RFLM));

@@ -20,8 +20,11 @@ const SOURCES: [(&str, &str); 6] = [
 ];
 
 const MOST_LINES: usize = 2048;
-static PASSES: [[AtomicU64; MOST_LINES]; SOURCES.len()] =
-    [const { [const { AtomicU64::new(0) }; MOST_LINES] }; SOURCES.len()];
+#[allow(clippy::declare_interior_mutable_const)]
+const NO_PASS: AtomicU64 = AtomicU64::new(0);
+#[allow(clippy::declare_interior_mutable_const)]
+const NO_PASSES: [AtomicU64; MOST_LINES] = [NO_PASS; MOST_LINES];
+static PASSES: [[AtomicU64; MOST_LINES]; SOURCES.len()] = [NO_PASSES; SOURCES.len()];
 
 /// Called by `here!()`.
 pub fn pass(file: &str, line: u32) {
@@ -235,10 +238,13 @@ impl Meetings {
     }
 
     fn note_own_end(&mut self, result: u8, before: &Controller, after: &Controller, code: u8) {
-        let (Some(x), 0) = (before.transmitter().on_wire(), code) else {
-            let place = if before.is_loopback() { "loopback" } else { "no loopback" };
-            let wire = if before.on_wire() { "on the wire" } else { "none on the wire" };
-            return self.note(format!("own end {} refused by {code}, {wire}, {place}", result.min(8)));
+        let x = match (before.transmitter().on_wire(), code) {
+            (Some(x), 0) => x,
+            _ => {
+                let place = if before.is_loopback() { "loopback" } else { "no loopback" };
+                let wire = if before.on_wire() { "on the wire" } else { "none on the wire" };
+                return self.note(format!("own end {} refused by {code}, {wire}, {place}", result.min(8)));
+            }
         };
         let ended = after.transmitter().mailbox(x).is_empty();
         let nart = before.mcr() & mcr::NART != 0;
@@ -262,7 +268,10 @@ impl Meetings {
 /// Every register read, written, and refused where it can be.
 fn expect_registers(expect: &mut impl FnMut(String)) {
     for offset in (0..0x400).step_by(4) {
-        let Some(register) = Register::at(offset) else { continue };
+        let register = match Register::at(offset) {
+            Some(register) => register,
+            None => continue,
+        };
         let name = register.name();
         expect(format!("read {name}, code 0"));
         match register {

@@ -177,8 +177,9 @@ impl Filters {
             let bank = banks.trailing_zeros() as usize;
             banks &= banks - 1;
             let [r1, r2] = self.values[bank];
-            let Some(position) = first_match(r1, r2) else {
-                continue;
+            let position = match first_match(r1, r2) {
+                Some(position) => position,
+                None => continue,
             };
             let fifo = self.fifo_of(bank);
             let hit = Hit { number: self.first_number[bank] + position, fifo };

@@ -160,15 +160,17 @@ impl Generator {
         let fifo = self.rng.below(2) as usize;
         let output = at::output(fifo, self.rng.below(4) as u16);
         let mailbox = at::mailbox(self.rng.below(3) as usize, self.rng.below(4) as u16);
-        let choices: &[u16] = match step {
-            Step::Write(offset, _) if self.rng.percent(50) => &[offset],
-            Step::Write(at::MCR, _) | Step::Idle | Step::Activity => &[at::MSR, at::MSR, at::MCR, at::ESR, at::TSR],
-            Step::Start | Step::OwnEnd(_) => &[at::TSR, at::TSR, at::ESR, at::MSR, mailbox, output, at::status(fifo)],
-            Step::Frame(_) => &[at::status(fifo), output, output, at::ESR, at::MSR],
-            Step::ReceiveError { .. } => &[at::ESR, at::MSR],
-            _ => &[at::TSR, at::MSR, at::ESR, at::MCR, at::IER, at::status(fifo), output, mailbox],
+        let rng = &mut self.rng;
+        let offset = match step {
+            Step::Write(offset, _) if rng.percent(50) => rng.pick(&[offset]),
+            Step::Write(at::MCR, _) | Step::Idle | Step::Activity => rng.pick(&[at::MSR, at::MSR, at::MCR, at::ESR, at::TSR]),
+            Step::Start | Step::OwnEnd(_) => {
+                rng.pick(&[at::TSR, at::TSR, at::ESR, at::MSR, mailbox, output, at::status(fifo)])
+            }
+            Step::Frame(_) => rng.pick(&[at::status(fifo), output, output, at::ESR, at::MSR]),
+            Step::ReceiveError { .. } => rng.pick(&[at::ESR, at::MSR]),
+            _ => rng.pick(&[at::TSR, at::MSR, at::ESR, at::MCR, at::IER, at::status(fifo), output, mailbox]),
         };
-        let offset = self.rng.pick(choices);
         self.read(offset);
     }
 
@@ -520,8 +522,9 @@ impl Generator {
 
     /// Fills an empty mailbox and requests its transmission.
     fn request(&mut self) {
-        let Some(x) = self.empty_mailbox() else {
-            return;
+        let x = match self.empty_mailbox() {
+            Some(x) => x,
+            None => return,
         };
         if self.rng.percent(35) {
             let control = self.rng.word() & 0xFFFF_FFF0 | self.length() as u32;
@@ -609,8 +612,9 @@ impl Generator {
 
     /// Aborts the frame on the wire and ends it, with either setting of NART.
     fn abort_on_wire(&mut self) {
-        let Some(x) = self.bench.transmitter().on_wire() else {
-            return;
+        let x = match self.bench.transmitter().on_wire() {
+            Some(x) => x,
+            None => return,
         };
         self.write(at::TSR, 0x80 << (8 * x));
         if self.rng.percent(40) {

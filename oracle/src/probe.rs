@@ -291,7 +291,9 @@ mod switch {
     use std::sync::atomic::{AtomicBool, AtomicU32, Ordering::Relaxed};
 
     static CURRENT: AtomicU32 = AtomicU32::new(0);
-    static MEMORY: [AtomicBool; 4] = [const { AtomicBool::new(false) }; 4];
+    #[allow(clippy::declare_interior_mutable_const)]
+    const NOTHING: AtomicBool = AtomicBool::new(false);
+    static MEMORY: [AtomicBool; 4] = [NOTHING; 4];
 
     /// Is this mistake the one that is switched on?
     #[inline(always)]

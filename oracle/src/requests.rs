@@ -94,15 +94,19 @@ impl Requests {
     }
 
     fn feed_own_end(&mut self, result: u8) -> Result<(), String> {
-        let Some(x) = self.on_wire.take() else {
-            return Err("an own end with nothing on the wire".into());
+        let x = match self.on_wire.take() {
+            Some(x) => x,
+            None => return Err("an own end with nothing on the wire".into()),
         };
         if result != 0 && !self.nart && !self.abort_mark[x] {
             return Ok(());
         }
         self.end(x);
         for (other, request) in self.outstanding.iter_mut().enumerate() {
-            let Some(request) = request else { continue };
+            let request = match request {
+                Some(request) => request,
+                None => continue,
+            };
             request.others_ended_on_wire += 1;
             request.frames_ended_well += (result == 0) as u32;
             request.check(other)?;

@@ -73,22 +73,22 @@ pub fn step(controller: &mut Controller, script: &[u8], place: usize, reply: &mu
         here!();
         return Progress { answer: unchanged(controller, 0), place: script.len(), at_end: true };
     }
-    let Some(reply) = reply.first_chunk_mut() else {
+    if reply.len() < REPLY_LENGTH {
         here!();
         return Progress { answer: unchanged(controller, CODE_NO_REPLY_SPACE), place, at_end: false };
-    };
+    }
     let (answer, next) = match decode(&script[place..]) {
         Ok((step, length)) => (step.apply(controller), place + length),
         Err(unreadable) => (unchanged(controller, unreadable.code()), place),
     };
-    write_reply(reply, answer);
+    write_reply(&mut reply[..REPLY_LENGTH], answer);
     Progress { answer, place: next, at_end: false }
 }
 
-fn write_reply(reply: &mut [u8; REPLY_LENGTH], answer: Answer) {
+fn write_reply(reply: &mut [u8], answer: Answer) {
     let lines = if made(Mistake::RefusalLinesZero) && answer.code >= 6 { 0 } else { answer.lines };
     let [w0, w1, w2, w3] = answer.word.to_le_bytes();
-    *reply = [REPLY_TAG, 6, 0, answer.code, lines, w0, w1, w2, w3];
+    reply.copy_from_slice(&[REPLY_TAG, 6, 0, answer.code, lines, w0, w1, w2, w3]);
 }
 
 /// The body length that belongs to a tag.
@@ -109,13 +109,19 @@ pub fn decode(rest: &[u8]) -> Result<(Step, usize), Unreadable> {
     if made(Mistake::UnknownTagBeforeShortHeader) && body_length(rest[0]).is_none() {
         return Err(Unreadable::UnknownTag(rest[0]));
     }
-    let Some(&[tag, low, high]) = rest.first_chunk::<HEADER_LENGTH>() else {
-        here!();
-        return Err(Unreadable::ShortHeader);
+    let (tag, low, high) = match *rest {
+        [tag, low, high, ..] => (tag, low, high),
+        _ => {
+            here!();
+            return Err(Unreadable::ShortHeader);
+        }
     };
-    let Some(needed) = body_length(tag) else {
-        here!();
-        return Err(Unreadable::UnknownTag(tag));
+    let needed = match body_length(tag) {
+        Some(needed) => needed,
+        None => {
+            here!();
+            return Err(Unreadable::UnknownTag(tag));
+        }
     };
     let high = if made(Mistake::LowLengthByteOnly) { 0 } else { high };
     let length = u16::from_le_bytes([low, high]);
@@ -128,9 +134,12 @@ pub fn decode(rest: &[u8]) -> Result<(Step, usize), Unreadable> {
         here!();
         return Err(Unreadable::WrongLength(tag, length));
     }
-    let Some(body) = rest.get(HEADER_LENGTH..end) else {
-        here!();
-        return Err(Unreadable::ShortBody);
+    let body = match rest.get(HEADER_LENGTH..end) {
+        Some(body) => body,
+        None => {
+            here!();
+            return Err(Unreadable::ShortBody);
+        }
     };
     Ok((Step::from_body(tag, body), end))
 }

@@ -73,8 +73,9 @@ fn split(script: &[u8]) -> Vec<&[u8]> {
 
 /// Removes ever smaller runs of records while the outputs still differ.
 fn shrink_records<'a>(pair: &mut Pair, records: &[&'a [u8]]) -> Result<Option<Vec<&'a [u8]>>, String> {
-    let Some(last) = pair.first_difference(records)? else {
-        return Ok(None);
+    let last = match pair.first_difference(records)? {
+        Some(last) => last,
+        None => return Ok(None),
     };
     let mut kept = records[..=last.min(records.len().saturating_sub(1))].to_vec();
     let mut run = (kept.len() / 2).max(1);
@@ -92,7 +93,7 @@ fn shrink_records<'a>(pair: &mut Pair, records: &[&'a [u8]]) -> Result<Option<Ve
 fn remove_runs(pair: &mut Pair, kept: &mut Vec<&[u8]>, run: usize) -> Result<bool, String> {
     let mut removed = false;
     let mut end = kept.len();
-    let pinned = kept.first().is_some_and(|record| **record == RESET) as usize;
+    let pinned = kept.first().map_or(false, |record| **record == RESET) as usize;
     while end > pinned {
         let start = end.saturating_sub(run).max(pinned);
         let mut candidate = kept.clone();

@@ -449,7 +449,7 @@ fn filters_take_what_a_plain_search_finds() {
             controller.frame(data_frame(identifier, 0));
             for fifo in 0..2u16 {
                 let stored = word(&mut controller, RF0R + 4 * fifo) & 3 != 0;
-                assert_eq!(stored, expected.is_some_and(|(_, taken)| taken == fifo as u32));
+                assert_eq!(stored, expected.map_or(false, |(_, taken)| taken == fifo as u32));
                 if stored {
                     let number = word(&mut controller, RDT0 + 0x10 * fifo) >> 8 & 0xFF;
                     assert_eq!(Some((number, fifo as u32)), expected);
