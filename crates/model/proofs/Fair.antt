@@ -1,41 +1,38 @@
 -- Demand 3: the fairness of request order, for every list of steps.
-use mathlib.Core.Bool.{Bool, true, false, not, _&&_, _||_, true≢false, false≢true}
+use mathlib.Core.Bool.{Bool, true, false, not, false≢true}
 use mathlib.Core.Path.{_≡_, refl, sym, subst, ap, _∙_}
 use mathlib.Core.List.{List, [], _∷_, _++_}
 use mathlib.Core.Logic.{_⊎_, inl, inr}
-use Prim.Native.Nat.{ℕ, suc, _≤_, _<_, _+_, _*_, _/_, _%_, _^_}
+use Prim.Native.Nat.{ℕ, _≤_, _+_}
 use native.Mathlib.Omega.{arith}
-use lib.Dec.{leb, ltb, eqb}
-use Rattle.model.specs.Base.{pick, bit, one}
-use Rattle.model.specs.Queue.{number, flag, holds, joined, senderNumber}
-use Rattle.model.specs.Mailboxes.{tsr, tsrByte, code, lastOf, tme}
+use Rattle.model.specs.Base.{bit, one}
+use Rattle.model.specs.Queue.{number, flag, holds, joined}
+use Rattle.model.specs.Mailboxes.{code}
 use Rattle.model.specs.Control.{txfp, controlReset}
-use Rattle.model.specs.Registers.{reset, registerAt, controlRegister, readWord}
-use Rattle.model.specs.Step.{step, answered, refusal, wordOf}
+use Rattle.model.specs.Registers.{reset, registerAt, controlRegister}
+use Rattle.model.specs.Step.{step, answered, refusal}
 use Rattle.model.specs.Reachable.{distinct, carried}
 use Rattle.model.specs.Requests.{Event, nothing, drops, modes, accepts, aborts, starts, ends, Entry, Requests, noneYet, next, requestsAfter, after, entries, event, entry}
-use Rattle.model.specs.Fairness.{isDrop, inOrder, Moment, meanwhile, hasEnded, underRequestOrder, otherEnds, otherEnd, isGood, endsWell, every, count, Served, Fairness, requestsAt, entriesFrom}
+use Rattle.model.specs.Fairness.{isDrop, inOrder, Moment, meanwhile, hasEnded, underRequestOrder, otherEnds, otherEnd, isGood, endsWell, every, count, Served, Fairness, requestsFrom, entriesBehind}
 use Rattle.model.specs.declared.Mailbox.{Mailbox}
-use Rattle.model.specs.declared.Mailbox.the-variants.{M0, M1, M2}
 use Rattle.model.specs.declared.Sender.{Sender}
 use Rattle.model.specs.declared.Sender.the-variants.{Nobody, From}
 use Rattle.model.specs.declared.RequestOrder.{RequestOrder}
-use Rattle.model.specs.declared.MailboxState.{MailboxState}
-use Rattle.model.specs.declared.Transmit.{Transmit}
 use Rattle.model.specs.declared.Controller.{Controller}
 use Rattle.model.specs.declared.Step as steps
 use Rattle.model.specs.declared.Step.the-variants.{Read}
-use Rattle.model.proofs.Choices.{Is, Not, Is-not, and-l, and-r, pick-cases, one-le, one-bit}
-use Rattle.model.proofs.Orders.{ahead, ahead-two, outOf, flag-out, holds-joined, last-joined}
+use Rattle.model.proofs.Choices.{Is, Not, Is-not, and-l, and-r}
+use Rattle.model.proofs.Orders.{ahead, ahead-two, flag-out, holds-joined, last-joined}
 use Rattle.model.proofs.Views.{View, viewNext, Granted, Sound, requestsOf, requests-follow, sound-next, Waits, inFront, Turn, over, on, turn}
 use Rattle.model.proofs.Follows.{viewOf, follows}
+use Rattle.model.proofs.ReadFields.{tsr-read, tme-bit}
 
 -- ---- the observer's requests are the controller's
 
-abbrev Good : Controller → Type 0
+abbrev pub Good : Controller → Type 0
 Good z = Sound (z .core .transmit .queue)
 
-abbrev view : Controller → View
+abbrev pub view : Controller → View
 view z = viewOf (z .core)
 
 step-sound : (z : Controller) (s : steps.Step) → Good z → Good (step z s .controller)
@@ -49,7 +46,7 @@ unfolding after
 run-sound [] z g = g
 run-sound (s ∷ l) z g = run-sound l (step z s .controller) (step-sound z s g)
 
-run-requests : (l : List steps.Step) (z : Controller) → Good z → requestsAfter (requestsOf (view z)) (entries z l) ≡ requestsOf (view (after z l))
+pub run-requests : (l : List steps.Step) (z : Controller) → Good z → requestsAfter (requestsOf (view z)) (entries z l) ≡ requestsOf (view (after z l))
 unfolding after entries requestsAfter
 run-requests [] z g = refl
 run-requests (s ∷ l) z g =
@@ -63,12 +60,6 @@ reset-sound = record { once = refl; wired = refl }
 reset-requests : requestsOf (view reset) ≡ noneYet
 unfolding reset controlReset
 reset-requests = refl
-
-pub sound-at : (l : List steps.Step) → Good (after reset l)
-sound-at l = run-sound l reset reset-sound
-
-pub requests-at : (l : List steps.Step) → requestsAt l ≡ requestsOf (view (after reset l))
-requests-at l = subst (λ (b : Requests). requestsAfter b (entries reset l) ≡ requestsOf (view (after reset l))) reset-requests (run-requests l reset reset-sound)
 
 -- ---- what is shown of the time in which m waits, k places from the front
 
@@ -205,78 +196,31 @@ unfolding after
 after-append z [] m = refl
 after-append z (s ∷ l) m = after-append (step z s .controller) l m
 
--- ---- TME in a TSR read
-
-module _ (low : ℕ) (small : low < 2 ^ 26) (a b c : Bool) (x y z : ℕ) where
-  abbrev word : ℕ
-  word = low + one a * 2 ^ 26 + one b * 2 ^ 27 + one c * 2 ^ 28 + x * 2 ^ 29 + y * 2 ^ 30 + z * 2 ^ 31
-
-  bit-26 : word / 2 ^ 26 % 2 ≡ one a
-  bit-26 = omega (arith, one-le a, one-le b, one-le c)
-
-  bit-27 : word / 2 ^ 27 % 2 ≡ one b
-  bit-27 = omega (arith, one-le a, one-le b, one-le c)
-
-  bit-28 : word / 2 ^ 28 % 2 ≡ one c
-  bit-28 = omega (arith, one-le a, one-le b, one-le c)
-
-byte-small : (x : MailboxState) (a : Bool) → tsrByte x a < 256
-unfolding tsrByte
-byte-small x a = omega (arith, one-le (x .rqcp), one-le (x .txok), one-le (x .alst), one-le (x .terr), one-le a)
-
-sender-small : (w : Sender) → senderNumber w ≤ 3
-sender-small Nobody = omega arith
-sender-small (From M0) = omega arith
-sender-small (From M1) = omega arith
-sender-small (From M2) = omega arith
-
-code-small : (p : Bool) (t : Transmit) → code p t ≤ 3
-unfolding code
-code-small p t =
-    pick-cases (λ (n : ℕ). n ≤ 3) (tme t M0) _ _ (λ _. omega arith)
-    (λ _. pick-cases (λ (n : ℕ). n ≤ 3) (tme t M1) _ _ (λ _. omega arith)
-    (λ _. pick-cases (λ (n : ℕ). n ≤ 3) (tme t M2) _ _ (λ _. omega arith) (λ _. sender-small (lastOf p t))))
-
-module _ (p : Bool) (t : Transmit) where
-  low-small : tsrByte (t .mailboxes .m0) (t .queue .aborts .m0) + tsrByte (t .mailboxes .m1) (t .queue .aborts .m1) * 2 ^ 8 + tsrByte (t .mailboxes .m2) (t .queue .aborts .m2) * 2 ^ 16 + code p t * 2 ^ 24 < 2 ^ 26
-  low-small =
-      sum (tsrByte (t .mailboxes .m0) (t .queue .aborts .m0)) (tsrByte (t .mailboxes .m1) (t .queue .aborts .m1)) (tsrByte (t .mailboxes .m2) (t .queue .aborts .m2)) (code p t)
-      (byte-small (t .mailboxes .m0) (t .queue .aborts .m0)) (byte-small (t .mailboxes .m1) (t .queue .aborts .m1)) (byte-small (t .mailboxes .m2) (t .queue .aborts .m2)) (code-small p t)
-    where
-      sum : (x y z u : ℕ) → x < 256 → y < 256 → z < 256 → u ≤ 3 → x + y * 2 ^ 8 + z * 2 ^ 16 + u * 2 ^ 24 < 2 ^ 26
-      sum x y z u a b c d = omega arith
-
-  tme-bit : (m : Mailbox) → bit (26 + number m) (tsr p t) ≡ tme t m
-  unfolding tsr
-  tme-bit M0 = one-bit _ _ (bit-26 _ low-small (tme t M0) (tme t M1) (tme t M2) _ _ _)
-  tme-bit M1 = one-bit _ _ (bit-27 _ low-small (tme t M0) (tme t M1) (tme t M2) _ _ _)
-  tme-bit M2 = one-bit _ _ (bit-28 _ low-small (tme t M0) (tme t M1) (tme t M2) _ _ _)
-
 tsr-code : (z : Controller) → step z (Read 8) .code ≡ 0
 unfolding step answered refusal registerAt controlRegister
 tsr-code z = refl
 
-tsr-word : (z : Controller) → step z (Read 8) .word ≡ tsr (txfp (z .core .control)) (z .core .transmit)
-unfolding step answered refusal wordOf registerAt controlRegister readWord
-tsr-word z = refl
-
 -- ---- demand 3
 
-pub fairness : (l : List steps.Step) → Fairness l
+pub good-fair : (z : Controller) (l : List steps.Step) → Good z → Fairness z (requestsOf (view z)) l
 unfolding after
-fairness l = record {
-  read = tsr-code (after reset l);
-  empty = λ m. empty m;
+good-fair z l g = record {
+  read = tsr-code (after z l);
+  empty = empty;
   served = λ before s rest m e. claim before s rest m;
 }
   where
-    z : Controller
-    z = after reset l
+    b : Requests
+    b = requestsOf (view z)
 
-    empty : (m : Mailbox) → bit (26 + number m) (step z (Read 8) .word) ≡ not (flag (requestsAt l .outstanding) m)
-    empty m = rw (tsr-word z, requests-at l, flag-out (z .core .transmit .queue .order) m) (tme-bit (txfp (z .core .control)) (z .core .transmit) m)
+    empty : (m : Mailbox) → bit (26 + number m) (step (after z l) (Read 8) .word) ≡ not (flag (requestsFrom z b l .outstanding) m)
+    empty m = rw (tsr-read (after z l), run-requests l z g, flag-out (after z l .core .transmit .queue .order) m) (tme-bit (txfp (after z l .core .control)) (after z l .core .transmit) m)
 
-    claim : (before : List steps.Step) (s : steps.Step) (rest : List steps.Step) (m : Mailbox) → event (entry s (step (after reset before) s)) ≡ accepts m
-        → Claim (requestsAt (before ++ s ∷ [])) m (entriesFrom (before ++ s ∷ []) rest)
+    claim : (before : List steps.Step) (s : steps.Step) (rest : List steps.Step) (m : Mailbox) → event (entry s (step (after z before) s)) ≡ accepts m
+        → Claim (requestsFrom z b (before ++ s ∷ [])) m (entriesBehind z (before ++ s ∷ []) rest)
     claim before s rest m a =
-        rw (requests-at (before ++ s ∷ []), after-append reset before (s ∷ [])) (accepted rest (after reset before) s m (sound-at before) a)
+        rw (run-requests (before ++ s ∷ []) z g, after-append z before (s ∷ [])) (accepted rest (after z before) s m (run-sound before z g) a)
+
+-- demand 3, for every list of steps from hardware reset
+pub fairness : (l : List steps.Step) → Fairness reset noneYet l
+fairness l = subst (λ (b : Requests). Fairness reset b l) reset-requests (good-fair reset l reset-sound)

@@ -1,6 +1,7 @@
 pub mod Choices
 pub mod Bounded
 pub mod Orders
+pub mod ReadFields
 pub mod Views
 pub mod Follows
 pub mod Fair
@@ -8,6 +9,7 @@ pub mod Computed
 pub mod Starve
 pub mod Mapped
 pub mod Coded
+pub mod Worded
 pub mod Waiting
 pub mod Digits
 pub mod Numbering
@@ -28,6 +30,7 @@ pub mod Parts
 pub mod Pieces
 pub mod QueueRanges
 pub mod Reached
+pub mod FromAnywhere
 pub mod Readings
 pub mod Replays
 pub mod Tied

@@ -8,10 +8,9 @@ use lib.Dec.{eqb, ltb, leb}
 use lib.ListN.{length}
 use borrow.Author.Tests.{ltb-false, leb-true, leb-false, lt-leb, ne-eqb}
 use Rattle.model.specs.Base.{pick}
-use Rattle.model.specs.Step.{refusal, answered, step}
+use Rattle.model.specs.Step.{step}
 use Rattle.model.specs.Script.{byteAt, bodyLength, reading, readingCode, stayed, atEnd, passed, replayed, recordAt, stops}
 use Rattle.model.specs.Scripts.{isEnd, noSpace, headerShort, tagUnknown, lengthWrong, bodyShort, behind, stepAt, RecordCodes}
-use Rattle.model.specs.declared.Core.{Core}
 use Rattle.model.specs.declared.Controller.{Controller}
 use Rattle.model.specs.declared.Stepped.{Stepped}
 use Rattle.model.specs.declared.Reading.{Reading}
@@ -24,13 +23,8 @@ use Rattle.model.proofs.Coded.{codes}
 -- ---- the codes of a step
 
 -- a step never gives the codes 6 to 9
-pub refusal-small : (c : Core) (e : steps.Step) → refusal c e ≤ 5
-refusal-small c e = codes c e .atMost
-
--- nor does its answer
 pub code-small : (z : Controller) (e : steps.Step) → step z e .code ≤ 5
-unfolding step answered
-code-small z e = refusal-small (z .core) e
+code-small z e = codes z e .atMost
 
 -- ---- the order in which a record is looked at
 

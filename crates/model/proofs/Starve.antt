@@ -1,6 +1,6 @@
 -- Under lowest-identifier order a request can wait past any number of others; and demand 3 is not empty.
-use mathlib.Core.Bool.{Bool, true, false, not, _&&_, true≢false, false≢true}
-use mathlib.Core.Path.{_≡_, refl, sym, subst, ap, ap₂, _∙_}
+use mathlib.Core.Bool.{Bool, true, false, not, _&&_, true≢false}
+use mathlib.Core.Path.{_≡_, refl, ap, ap₂, _∙_}
 use mathlib.Core.List.{List, [], _∷_, _++_}
 use Prim.Native.Nat.{ℕ, zero, suc, _+_}
 use native.Mathlib.Omega.{arith}
@@ -9,12 +9,12 @@ use Rattle.model.specs.Queue.{flag}
 use Rattle.model.specs.Registers.{reset}
 use Rattle.model.specs.Step.{step}
 use Rattle.model.specs.Requests.{accepts, Entry, Requests, noneYet, next, requestsAfter, after, entries, event, entry}
-use Rattle.model.specs.Fairness.{isDrop, Moment, meanwhile, hasEnded, every, count, otherWell, requestsAt, entriesFrom, TwoOthers, Starvation}
+use Rattle.model.specs.Fairness.{isDrop, Moment, meanwhile, hasEnded, every, count, otherWell, requestsAt, TwoOthers, Starvation}
 use Rattle.model.specs.declared.Mailbox.{Mailbox}
-use Rattle.model.specs.declared.Mailbox.the-variants.{M0, M1, M2}
+use Rattle.model.specs.declared.Mailbox.the-variants.{M0, M2}
 use Rattle.model.specs.declared.Controller.{Controller}
 use Rattle.model.specs.declared.Step as steps
-use Rattle.model.specs.declared.Step.the-variants.{Reset, Read, Write, Idle, BitTimes, Activity, Start, Outcome, Receive, ReceiveError}
+use Rattle.model.specs.declared.Step.the-variants.{Write, Idle, Start, Outcome}
 use Rattle.model.proofs.Computed.{everything, observed}
 
 -- ---- starvation: mailbox 0 waits with identifier 0x7FF while mailbox 1 sends identifier 0 again and again
@@ -76,6 +76,14 @@ request-accepted : event (entry request (step (after reset opening) request)) �
 unfolding after everything
 request-accepted = refl
 
+txfp-before : requestsAt opening .txfp ≡ false
+unfolding observed everything
+txfp-before = refl
+
+txfp-after : requestsThen .txfp ≡ false
+unfolding observed everything
+txfp-after = refl
+
 -- the observer's requests at the acceptance, computed
 abbrev asked : Requests
 asked = requestsAfter noneYet (fed (Write 0 0) 0 ∷ fed Idle 0 ∷ roundEntries (fed request 0 ∷ []))
@@ -122,6 +130,8 @@ starvation n = record {
   request = request;
   rest = rounds n;
   accepted = request-accepted;
+  txfpBefore = txfp-before;
+  txfpAfter = txfp-after;
   byIdentifier = rw (requests-then, rounds-entries n) (stays-by-identifier n);
   kept = rw (requests-then, rounds-entries n) (stays-kept n);
   others = rw (requests-then, rounds-entries n) (others-end-well n);

@@ -4,16 +4,15 @@ use mathlib.Core.Bool.{Bool, true, false, not, _&&_, _||_}
 use mathlib.Core.Path.{_≡_}
 use Prim.Native.Nat.{ℕ, _+_, _*_, _%_, _≤_}
 use lib.Dec.{eqb, ltb, leb}
-use Rattle.model.specs.Base.{bit}
+use Rattle.model.specs.Base.{bit, bits}
 use Rattle.model.specs.Queue.{number}
-use Rattle.model.specs.Reception.{malformed}
-use Rattle.model.specs.Control.{isSleep, isInitialization}
-use Rattle.model.specs.Registers.{registerAt, isAbsent, bankCount, hasRequest, isFree}
-use Rattle.model.specs.Step.{step, linesOf, refusal, mayStart, mayEnd, mayReceive, receiveErrorInRange}
+use Rattle.model.specs.Registers.{registerAt, isAbsent, bankCount}
+use Rattle.model.specs.Step.{step, linesOf}
 use Rattle.model.specs.declared.Mailbox.{Mailbox}
+use Rattle.model.specs.declared.Mailbox.the-variants.{M0, M1, M2}
 use Rattle.model.specs.declared.Fifo.{Fifo}
 use Rattle.model.specs.declared.Fifo.the-variants.{F0, F1}
-use Rattle.model.specs.declared.Core.{Core}
+use Rattle.model.specs.declared.Bank.{Bank}
 use Rattle.model.specs.declared.Controller.{Controller}
 use Rattle.model.specs.declared.Register.{Register}
 use Rattle.model.specs.declared.Register.the-variants.{Mcr, Msr, Tsr, Rfr, Ier, Esr, Btr, Ti, Tdt, Tdl, Tdh, Ri, Rdt, Rdl, Rdh, Fmr, Fm1r, Fs1r, Ffa1r, Fa1r, R1, R2, Absent}
@@ -93,13 +92,52 @@ pub record Map : Type 0 where
   pub found : (r : Register) → IsPresent r → registerAt (offsetOf r) ≡ r
   pub only : (o : ℕ) → isAbsent (registerAt o) ≡ false → offsetOf (registerAt o) ≡ o
 
+-- ---- the state as registers show it
+
+-- the word that a read gives
+abbrev pub shown : Controller → ℕ → ℕ
+shown z o = step z (Read o) .word
+
+-- MSR: INAK, SLAK, TXM
+abbrev pub inak : Controller → Bool
+inak z = bit 0 (shown z (offsetOf Msr))
+
+abbrev pub slak : Controller → Bool
+slak z = bit 1 (shown z (offsetOf Msr))
+
+abbrev pub txm : Controller → Bool
+txm z = bit 8 (shown z (offsetOf Msr))
+
+-- TSR: TME of a mailbox
+abbrev pub tme : Controller → Mailbox → Bool
+tme z m = bit (26 + number m) (shown z (offsetOf Tsr))
+
+-- ESR: BOFF
+abbrev pub boff : Controller → Bool
+boff z = bit 2 (shown z (offsetOf Esr))
+
+-- BTR: LBKM, SILM
+abbrev pub lbkm : Controller → Bool
+lbkm z = bit 30 (shown z (offsetOf Btr))
+
+abbrev pub silm : Controller → Bool
+silm z = bit 31 (shown z (offsetOf Btr))
+
+-- FMR: FINIT
+abbrev pub finit : Controller → Bool
+finit z = bit 0 (shown z (offsetOf Fmr))
+
+-- FA1R: a bank is active
+abbrev pub isActive : Controller → Bank → Bool
+isActive z b = bit (b .0) (shown z (offsetOf Fa1r))
+
 -- ---- when each code is given
 
 -- 1: offset not a multiple of 4, or not in the map
 abbrev pub notMapped : steps.Step → Bool
 notMapped Reset = false
-notMapped (Read o) = isAbsent (registerAt o)
-notMapped (Write o w) = isAbsent (registerAt o)
+notMapped (Read o) = not (inMap bankCount o)
+notMapped (Write o w) = not (inMap bankCount o)
 notMapped Idle = false
 notMapped (BitTimes n) = false
 notMapped Activity = false
@@ -147,45 +185,46 @@ writesOutput (Receive x) = false
 writesOutput (ReceiveError k n) = false
 
 -- BTR while INAK=0; a mailbox that isn't empty; FM1R, FS1R or FFA1R while FINIT=0; a bank's value while FINIT=0 and that bank is active
-abbrev pub isLocked : Register → Core → Bool
-isLocked Mcr c = false
-isLocked Msr c = false
-isLocked Tsr c = false
-isLocked (Rfr f) c = false
-isLocked Ier c = false
-isLocked Esr c = false
-isLocked Btr c = not (isInitialization (c .control .mode))
-isLocked (Ti m) c = hasRequest c m
-isLocked (Tdt m) c = hasRequest c m
-isLocked (Tdl m) c = hasRequest c m
-isLocked (Tdh m) c = hasRequest c m
-isLocked (Ri f) c = false
-isLocked (Rdt f) c = false
-isLocked (Rdl f) c = false
-isLocked (Rdh f) c = false
-isLocked Fmr c = false
-isLocked Fm1r c = not (c .filters .finit)
-isLocked Fs1r c = not (c .filters .finit)
-isLocked Ffa1r c = not (c .filters .finit)
-isLocked Fa1r c = false
-isLocked (R1 b) c = not (c .filters .finit) && bit (b .0) (c .filters .activation)
-isLocked (R2 b) c = not (c .filters .finit) && bit (b .0) (c .filters .activation)
-isLocked Absent c = false
+abbrev pub isLocked : Register → Controller → Bool
+isLocked Mcr z = false
+isLocked Msr z = false
+isLocked Tsr z = false
+isLocked (Rfr f) z = false
+isLocked Ier z = false
+isLocked Esr z = false
+isLocked Btr z = not (inak z)
+isLocked (Ti m) z = not (tme z m)
+isLocked (Tdt m) z = not (tme z m)
+isLocked (Tdl m) z = not (tme z m)
+isLocked (Tdh m) z = not (tme z m)
+isLocked (Ri f) z = false
+isLocked (Rdt f) z = false
+isLocked (Rdl f) z = false
+isLocked (Rdh f) z = false
+isLocked Fmr z = false
+isLocked Fm1r z = not (finit z)
+isLocked Fs1r z = not (finit z)
+isLocked Ffa1r z = not (finit z)
+isLocked Fa1r z = false
+isLocked (R1 b) z = not (finit z) && isActive z b
+isLocked (R2 b) z = not (finit z) && isActive z b
+isLocked Absent z = false
 
 -- 2: write to a locked register
-abbrev pub writesLocked : steps.Step → Core → Bool
-writesLocked Reset c = false
-writesLocked (Read o) c = false
-writesLocked (Write o w) c = isLocked (registerAt o) c
-writesLocked Idle c = false
-writesLocked (BitTimes n) c = false
-writesLocked Activity c = false
-writesLocked Start c = false
-writesLocked (Outcome r) c = false
-writesLocked (Receive x) c = false
-writesLocked (ReceiveError k n) c = false
+abbrev pub writesLocked : steps.Step → Controller → Bool
+writesLocked Reset z = false
+writesLocked (Read o) z = false
+writesLocked (Write o w) z = isLocked (registerAt o) z
+writesLocked Idle z = false
+writesLocked (BitTimes n) z = false
+writesLocked Activity z = false
+writesLocked Start z = false
+writesLocked (Outcome r) z = false
+writesLocked (Receive x) z = false
+writesLocked (ReceiveError k n) z = false
 
--- 5: event field out of range
+-- 5: event field out of range. Bit times 1 to 65535; an own end 0 to 7; a frame whose identifier word has bit 0, a standard one
+-- with extended bits, a length code above 15; a receive error's code 1 to 6 and step 1 or 8
 abbrev pub outOfRange : steps.Step → Bool
 outOfRange Reset = false
 outOfRange (Read o) = false
@@ -195,34 +234,71 @@ outOfRange (BitTimes n) = not (leb 1 n && leb n 65535)
 outOfRange Activity = false
 outOfRange Start = false
 outOfRange (Outcome r) = ltb 7 r
-outOfRange (Receive x) = malformed x
-outOfRange (ReceiveError k n) = not (receiveErrorInRange k n)
+outOfRange (Receive x) = bit 0 (x .identifier) || (not (bit 2 (x .identifier)) && not (eqb (bits 3 18 (x .identifier)) 0)) || ltb 15 (x .length)
+outOfRange (ReceiveError k n) = not (leb 1 k && leb k 6 && (eqb n 1 || eqb n 8))
+
+-- Normal and not bus-off, with no own frame on the wire
+abbrev pub isReady : Controller → Bool
+isReady z = not (inak z) && not (slak z) && not (boff z) && not (txm z)
+
+-- some mailbox isn't empty
+abbrev pub anyPending : Controller → Bool
+anyPending z = not (tme z M0) || not (tme z M1) || not (tme z M2)
+
+-- what a start needs, and what a frame from the bus and a receive error need
+abbrev pub canStart : Controller → Bool
+canStart z = isReady z && anyPending z && not (silm z && not (lbkm z))
+
+abbrev pub canReceive : Controller → Bool
+canReceive z = isReady z && not (lbkm z) && not (finit z)
 
 -- 4: event that the state can't have
-abbrev pub cannotBe : steps.Step → Core → Bool
-cannotBe Reset c = false
-cannotBe (Read o) c = false
-cannotBe (Write o w) c = false
-cannotBe Idle c = not (isFree c)
-cannotBe (BitTimes n) c = false
-cannotBe Activity c = not (isSleep (c .control .mode))
-cannotBe Start c = not (mayStart c)
-cannotBe (Outcome r) c = not (mayEnd c r)
-cannotBe (Receive x) c = not (mayReceive c)
-cannotBe (ReceiveError k n) c = not (mayReceive c)
+abbrev pub cannotBe : steps.Step → Controller → Bool
+cannotBe Reset z = false
+cannotBe (Read o) z = false
+cannotBe (Write o w) z = false
+cannotBe Idle z = txm z
+cannotBe (BitTimes n) z = false
+cannotBe Activity z = not (slak z)
+cannotBe Start z = not (canStart z)
+cannotBe (Outcome r) z = not (txm z) || (eqb r 3 && lbkm z)
+cannotBe (Receive x) z = not (canReceive z)
+cannotBe (ReceiveError k n) z = not (canReceive z)
 
--- the table: each code exactly when 01 says; 5 comes before 4, the others exclude each other
-pub record Codes (c : Core) (s : steps.Step) : Type 0 where
-  pub one : eqb (refusal c s) 1 ≡ notMapped s
-  pub three : eqb (refusal c s) 3 ≡ writesOutput s
-  pub two : eqb (refusal c s) 2 ≡ writesLocked s c
-  pub five : eqb (refusal c s) 5 ≡ outOfRange s
-  pub four : eqb (refusal c s) 4 ≡ not (outOfRange s) && cannotBe s c
-  pub none : eqb (refusal c s) 0 ≡ not (notMapped s || writesOutput s || writesLocked s c || outOfRange s || cannotBe s c)
-  pub atMost : refusal c s ≤ 5
+-- the table, for every controller and every step: each code exactly when 01 says; 5 comes before 4, the others exclude each other
+pub record Codes (z : Controller) (s : steps.Step) : Type 0 where
+  pub one : eqb (step z s .code) 1 ≡ notMapped s
+  pub three : eqb (step z s .code) 3 ≡ writesOutput s
+  pub two : eqb (step z s .code) 2 ≡ writesLocked s z
+  pub five : eqb (step z s .code) 5 ≡ outOfRange s
+  pub four : eqb (step z s .code) 4 ≡ not (outOfRange s) && cannotBe s z
+  pub none : eqb (step z s .code) 0 ≡ not (notMapped s || writesOutput s || writesLocked s z || outOfRange s || cannotBe s z)
+  pub atMost : step z s .code ≤ 5
 
 -- what a refusal is: the word 0, the same state, the lines of that state
 pub record Refused (z : Controller) (s : steps.Step) : Type 0 where
   pub kept : step z s .controller ≡ z
   pub word : step z s .word ≡ 0
   pub lines : step z s .lines ≡ linesOf (z .core)
+
+-- ---- the word
+
+abbrev pub isReadOrStart : steps.Step → Bool
+isReadOrStart Reset = false
+isReadOrStart (Read o) = true
+isReadOrStart (Write o w) = false
+isReadOrStart Idle = false
+isReadOrStart (BitTimes n) = false
+isReadOrStart Activity = false
+isReadOrStart Start = true
+isReadOrStart (Outcome r) = false
+isReadOrStart (Receive x) = false
+isReadOrStart (ReceiveError k n) = false
+
+-- the word is 0 but for a read and a start; that of a start is the number of a mailbox that isn't empty, which TSR shows by
+-- TME=0, and its frame is then on the wire, which MSR shows by TXM=1
+pub record Words (z : Controller) : Type 0 where
+  pub none : (s : steps.Step) → isReadOrStart s ≡ false → step z s .word ≡ 0
+  pub mailbox : step z Start .word ≤ 2
+  pub pending : step z Start .code ≡ 0 → bit (26 + step z Start .word) (shown z (offsetOf Tsr)) ≡ false
+  pub onWire : step z Start .code ≡ 0 → txm (step z Start .controller) ≡ true

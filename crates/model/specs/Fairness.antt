@@ -1,6 +1,6 @@
 -- Demand 3 of the bench, as one claim about a whole list of steps; and its counterpart under lowest-identifier order.
 -- Document 01: "Request book", "How far each contract reaches".
-use mathlib.Core.Bool.{Bool, true, false, not, _&&_, _||_}
+use mathlib.Core.Bool.{Bool, true, false, not, _&&_}
 use mathlib.Core.List.{List, [], _∷_, _++_}
 use mathlib.Core.Path.{_≡_}
 use Prim.Native.Nat.{ℕ, _+_, _≤_}
@@ -98,29 +98,38 @@ count p (x ∷ l) = one (p x) + count p l
 
 -- ---- demand 3
 
--- the requests after a list of steps from hardware reset
-abbrev pub requestsAt : List steps.Step → Requests
-requestsAt l = requestsAfter noneYet (entries reset l)
+-- the requests after a list of steps from a controller z, where the observer had the requests b before
+abbrev pub requestsFrom : Controller → Requests → List steps.Step → Requests
+requestsFrom z b l = requestsAfter b (entries z l)
 
--- what follows a list of steps from hardware reset
-abbrev pub entriesFrom : List steps.Step → List steps.Step → List Entry
-entriesFrom l rest = entries (after reset l) rest
+-- what follows a list of steps from a controller z
+abbrev pub entriesBehind : Controller → List steps.Step → List steps.Step → List Entry
+entriesBehind z l rest = entries (after z l) rest
 
 -- of the request of m: at most two requests of other mailboxes end on the wire, and it has ended once three own frames have ended well
 pub record Served (m : Mailbox) (b : Requests) (rest : List Entry) : Type 0 where
   pub few : count (otherEnds m) (meanwhile m b rest) ≤ 2
   pub ended : 3 ≤ count endsWell rest → hasEnded m b rest ≡ true
 
-pub record Fairness (l : List steps.Step) : Type 0 where
+-- of a list of steps from a controller z, where the observer had the requests b before: from hardware reset, where it had none,
+-- and from any state in range, where it had those that the state holds
+pub record Fairness (z : Controller) (b : Requests) (l : List steps.Step) : Type 0 where
   -- a mailbox reads as empty, by TME of a TSR read, exactly when it has no outstanding request
-  pub read : step (after reset l) (Read 8) .code ≡ 0
-  pub empty : (m : Mailbox) → bit (26 + number m) (step (after reset l) (Read 8) .word) ≡ not (flag (requestsAt l .outstanding) m)
+  pub read : step (after z l) (Read 8) .code ≡ 0
+  pub empty : (m : Mailbox) → bit (26 + number m) (step (after z l) (Read 8) .word) ≡ not (flag (requestsFrom z b l .outstanding) m)
   -- each request that is accepted anywhere in the list, by its step s
   pub served : (before : List steps.Step) (s : steps.Step) (rest : List steps.Step) (m : Mailbox)
       → l ≡ before ++ s ∷ rest
-      → event (entry s (step (after reset before) s)) ≡ accepts m
-      → every underRequestOrder (meanwhile m (requestsAt (before ++ s ∷ [])) (entriesFrom (before ++ s ∷ []) rest)) ≡ true
-      → Served m (requestsAt (before ++ s ∷ [])) (entriesFrom (before ++ s ∷ []) rest)
+      → event (entry s (step (after z before) s)) ≡ accepts m
+      → every underRequestOrder (meanwhile m (requestsFrom z b (before ++ s ∷ [])) (entriesBehind z (before ++ s ∷ []) rest)) ≡ true
+      → Served m (requestsFrom z b (before ++ s ∷ [])) (entriesBehind z (before ++ s ∷ []) rest)
+
+-- the same from hardware reset
+abbrev pub requestsAt : List steps.Step → Requests
+requestsAt l = requestsFrom reset noneYet l
+
+abbrev pub entriesFrom : List steps.Step → List steps.Step → List Entry
+entriesFrom l rest = entriesBehind reset l rest
 
 -- demand 3 is not empty, and its numbers are reached: a request under request order while which exactly two others end on
 -- the wire; after those two good ends it still waits, and after a third it has ended
@@ -144,13 +153,15 @@ pub record TwoOthers : Type 0 where
 abbrev pub otherWell : Mailbox → Moment → Bool
 otherWell m x = otherEnds m x && isGood (x .event)
 
--- a history in which a request of mailbox 0 still waits though n others have ended well since its acceptance, TXFP being 0:
--- no reset has dropped it, it has not ended, and it is outstanding
+-- a history in which a request of mailbox 0 still waits though n others have ended well since its acceptance, TXFP being 0 just
+-- before it, after it and ever since: no reset has dropped it, it has not ended, and it is outstanding
 pub record Starvation (n : ℕ) : Type 0 where
   pub before : List steps.Step
   pub request : steps.Step
   pub rest : List steps.Step
   pub accepted : event (entry request (step (after reset before) request)) ≡ accepts M0
+  pub txfpBefore : requestsAt before .txfp ≡ false
+  pub txfpAfter : requestsAt (before ++ request ∷ []) .txfp ≡ false
   pub byIdentifier : every (λ (x : Moment). not (x .requests .txfp)) (meanwhile M0 (requestsAt (before ++ request ∷ [])) (entriesFrom (before ++ request ∷ []) rest)) ≡ true
   pub kept : every (λ (x : Moment). not (isDrop (x .event))) (meanwhile M0 (requestsAt (before ++ request ∷ [])) (entriesFrom (before ++ request ∷ []) rest)) ≡ true
   pub others : count (otherWell M0) (meanwhile M0 (requestsAt (before ++ request ∷ [])) (entriesFrom (before ++ request ∷ []) rest)) ≡ n

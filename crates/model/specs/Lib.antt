@@ -14,4 +14,5 @@ pub mod Scripts
 pub mod Reachable
 pub mod Codes
 pub mod History
+pub mod Anywhere
 pub mod Examples

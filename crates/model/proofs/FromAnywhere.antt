@@ -1,0 +1,202 @@
+-- Steps of callers and of scripts are in range, and a hardware reset makes every start the same.
+use mathlib.Core.List.{List, [], _∷_, _++_}
+use mathlib.Core.Path.{_≡_, refl, sym, subst, ap, _∙_}
+use Prim.Native.Nat.{ℕ, zero, suc, _+_, _-_, _/_, _^_, _<_, _≤_}
+use native.Mathlib.Omega.{arith}
+use lib.Dec.{eqb}
+use lib.ListN.{length, take, drop}
+use borrow.Author.Tests.{le-ltb}
+use Rattle.model.specs.Registers.{reset}
+use Rattle.model.specs.Step.{step}
+use Rattle.model.specs.Requests.{Requests, noneYet, next, requestsAfter, after, entries, event, entry}
+use Rattle.model.specs.Fairness.{Fairness, requestsFrom}
+use Rattle.model.specs.Reachable.{InRange, StepRange, StepsRange}
+use Rattle.model.specs.Script.{byteAt, number16, number32, bodyLength, decoded, part, reading, recordAt, replayed, begun, afterRecord, advanced, times, replay, stepsBy, stepsFrom, stepsOf}
+use Rattle.model.specs.Scripts.{isEnd, headerShort, tagUnknown, lengthWrong, bodyShort, behind, answeredSteps}
+use Rattle.model.specs.Anywhere.{InTypes, AllInTypes, OfCallers, Bytes, OfScripts, FromState, HardwareReset, BehindReset, opened, OpensWithReset}
+use Rattle.model.specs.declared.Controller.{Controller}
+use Rattle.model.specs.declared.Reading.{Reading}
+use Rattle.model.specs.declared.Reading.the-variants.{Found}
+use Rattle.model.specs.declared.Step as steps
+use Rattle.model.specs.declared.Step.the-variants.{Reset, Read, Write, Idle, BitTimes, Activity, Start, Outcome, Receive, ReceiveError}
+use Rattle.model.proofs.Choices.{pick-cases}
+use Rattle.model.proofs.Computed.{everything}
+use Rattle.model.proofs.Fair.{Good, run-requests, after-append, good-fair, fairness}
+use Rattle.model.proofs.Reached.{after-in-range, reachable}
+use Rattle.model.proofs.Replays.{steps-on, replays}
+use Rattle.model.proofs.Parts.{reading-behind, steps-rest}
+
+-- ---- callers
+
+types-range : (s : steps.Step) → InTypes s → StepRange s
+types-range Reset h = tt
+types-range (Read o) h = tt
+types-range (Write o w) h = h .1
+types-range Idle h = tt
+types-range (BitTimes n) h = tt
+types-range Activity h = tt
+types-range Start h = tt
+types-range (Outcome r) h = tt
+types-range (Receive x) h = (h .0, h .1, h .2)
+types-range (ReceiveError k n) h = tt
+
+all-range : (l : List steps.Step) → AllInTypes l → StepsRange l
+all-range [] h = tt
+all-range (s ∷ l) h = (types-range s (h .0), all-range l (h .1))
+
+pub of-callers : (l : List steps.Step) → OfCallers l
+of-callers l = record { range = all-range l; reachable = λ h. reachable l (all-range l h); fair = fairness l }
+
+-- ---- scripts
+
+byte-small : (s : List ℕ) (i : ℕ) → Bytes s → byteAt s i < 256
+byte-small [] i h = omega arith
+byte-small (b ∷ s) zero h = h .0
+byte-small (b ∷ s) (suc i) h = byte-small s i (h .1)
+
+bytes-drop : (n : ℕ) (s : List ℕ) → Bytes s → Bytes (drop n s)
+bytes-drop zero s h = h
+bytes-drop (suc n) [] h = tt
+bytes-drop (suc n) (b ∷ s) h = bytes-drop n s (h .1)
+
+bytes-take : (n : ℕ) (s : List ℕ) → Bytes s → Bytes (take n s)
+bytes-take zero s h = tt
+bytes-take (suc n) [] h = tt
+bytes-take (suc n) (b ∷ s) h = (h .0, bytes-take n s (h .1))
+
+bytes-part : (s : List ℕ) (a e : ℕ) → Bytes s → Bytes (part s a e)
+bytes-part s a e h = bytes-take (e - a) (drop a s) (bytes-drop a s h)
+
+module _ (b : List ℕ) (h : Bytes b) where
+  small-16 : (i : ℕ) → number16 b i < 2 ^ 16
+  small-16 i = omega (arith, byte-small b i h, byte-small b (i + 1) h)
+
+  small-32 : (i : ℕ) → number32 b i < 2 ^ 32
+  small-32 i = omega (arith, small-16 i, small-16 (i + 2))
+
+  -- what a body gives is in the types
+  decoded-types : (t : ℕ) → InTypes (decoded t b)
+  unfolding decoded
+  decoded-types t =
+      pick-cases InTypes (eqb t 1) _ _ (λ _. tt)
+      (λ _. pick-cases InTypes (eqb t 2) _ _ (λ _. small-16 0)
+      (λ _. pick-cases InTypes (eqb t 3) _ _ (λ _. (small-16 0, small-32 2))
+      (λ _. pick-cases InTypes (eqb t 4) _ _ (λ _. tt)
+      (λ _. pick-cases InTypes (eqb t 5) _ _ (λ _. small-16 0)
+      (λ _. pick-cases InTypes (eqb t 6) _ _ (λ _. tt)
+      (λ _. pick-cases InTypes (eqb t 7) _ _ (λ _. tt)
+      (λ _. pick-cases InTypes (eqb t 8) _ _ (λ _. byte-small b 0 h)
+      (λ _. pick-cases InTypes (eqb t 9) _ _ (λ _. (small-32 0, small-32 5, small-32 9, byte-small b 4 h))
+      (λ _. (byte-small b 0 h, byte-small b 1 h))))))))))
+
+-- each step of a script, by the cases of its reading
+steps-types : (n : ℕ) (s : List ℕ) (p : ℕ) → Bytes s → AllInTypes (stepsFrom n s p)
+unfolding stepsFrom stepsBy reading
+steps-types zero s p h = tt
+steps-types (suc n) s p h =
+    let P : Reading → Type 0 = λ (r : Reading). AllInTypes (stepsBy r (stepsFrom n s)) in
+    pick-cases P (isEnd s p) _ _ (λ _. tt)
+    (λ _. pick-cases P (headerShort s p) _ _ (λ _. tt)
+    (λ _. pick-cases P (tagUnknown s p) _ _ (λ _. tt)
+    (λ _. pick-cases P (lengthWrong s p) _ _ (λ _. tt)
+    (λ _. pick-cases P (bodyShort s p) _ _ (λ _. tt)
+    (λ _. (decoded-types (part s (p + 3) (behind s p)) (bytes-part s (p + 3) (behind s p) h) (byteAt s p), steps-types n s (behind s p) h))))))
+
+types-take : (n : ℕ) (l : List steps.Step) → AllInTypes l → AllInTypes (take n l)
+types-take zero l h = tt
+types-take (suc n) [] h = tt
+types-take (suc n) (s ∷ l) h = (h .0, types-take n l (h .1))
+
+script-types : (s : List ℕ) → Bytes s → AllInTypes (stepsOf s)
+unfolding stepsOf
+script-types s h = steps-types (length s) s 0 h
+
+answered-range : (s : List ℕ) (space : ℕ) → Bytes s → StepsRange (answeredSteps s space)
+answered-range s space h = all-range (answeredSteps s space) (types-take (space / 9) (stepsOf s) (script-types s h))
+
+pub of-scripts : (s : List ℕ) (space : ℕ) → OfScripts s space
+of-scripts s space = record {
+  types = script-types s;
+  range = answered-range s space;
+  reachable = λ h. rw (replays reset s space .folds .controller) (reachable (answeredSteps s space) (answered-range s space h));
+  fair = fairness (answeredSteps s space);
+}
+
+-- ---- any start
+
+good : (z : Controller) → InRange z → Good z
+good z r = record { once = r .core .transmit .queue .once; wired = r .core .transmit .queue .carries }
+
+pub from-state : (z : Controller) (l : List steps.Step) → FromState z l
+from-state z l = record {
+  held = λ r. run-requests l z (good z r);
+  fair = λ r. good-fair z l (good z r);
+  reachable = after-in-range z l;
+}
+
+pub hardware-reset : (z : Controller) → HardwareReset z
+unfolding everything
+hardware-reset z = record { controller = refl; code = refl; lines = refl; word = refl; requests = refl }
+
+-- whatever an observer had before, a reset leaves it nothing
+none-behind : (before : List steps.Step) (z : Controller) (b : Requests) → requestsFrom z b (before ++ Reset ∷ []) ≡ noneYet
+unfolding entries requestsAfter next
+none-behind [] z b = rw (hardware-reset z .code)
+none-behind (s ∷ l) z b = none-behind l (step z s .controller) (next b (event (entry s (step z s))))
+
+anew : (z : Controller) (before l : List steps.Step) → after z (before ++ Reset ∷ l) ≡ after reset l
+unfolding after
+anew z before l = after-append z before (Reset ∷ l) ∙ ap (λ (y : Controller). after y l) (hardware-reset (after z before) .controller)
+
+pub behind-reset : (z : Controller) (before l : List steps.Step) → BehindReset z before l
+unfolding after
+behind-reset z before l = record {
+  anew = anew z before [];
+  fair = λ b. subst (λ (y : Controller). Fairness y (requestsFrom z b (before ++ Reset ∷ [])) l) (sym (anew z before []))
+      (subst (λ (c : Requests). Fairness reset c l) (sym (none-behind before z b)) (fairness l));
+  reachable = λ h. rw (anew z before l) (reachable l h);
+}
+
+-- ---- a script that opens with a reset
+
+abbrev resetRecord : List ℕ
+resetRecord = opened []
+
+module _ (rest : List ℕ) where
+  opened-reading : reading (opened rest) 0 ≡ Found Reset 3
+  unfolding reading bodyLength decoded
+  opened-reading = reading-behind resetRecord rest 0 refl
+
+  opened-steps : stepsOf (opened rest) ≡ Reset ∷ stepsOf rest
+  unfolding stepsOf stepsBy
+  opened-steps = steps-on (opened rest) 0 ∙ rw opened-reading (ap (λ (l : List steps.Step). Reset ∷ l) (steps-rest resetRecord rest 3 (omega arith)))
+
+  opened-answered : (space : ℕ) → 9 ≤ space → answeredSteps (opened rest) space ≡ Reset ∷ answeredSteps rest (space - 9)
+  opened-answered space h = let n : space / 9 ≡ suc ((space - 9) / 9) = omega arith in rw (n, opened-steps)
+
+  reset-alike : (z : Controller) → step z Reset ≡ step reset Reset
+  unfolding everything
+  reset-alike z = refl
+
+  first-alike : (z : Controller) (space : ℕ) → 9 ≤ space → advanced (opened rest) space (begun z) ≡ advanced (opened rest) space (begun reset)
+  unfolding advanced afterRecord recordAt replayed
+  first-alike z space h = rw (opened-reading, le-ltb (space - 0) 9 (omega arith), reset-alike z)
+
+times-alike : {A : Type 0} (n : ℕ) (f : A → A) (x y : A) → f x ≡ f y → times (suc n) f x ≡ times (suc n) f y
+unfolding times
+times-alike zero f x y h = h
+times-alike (suc n) f x y h = ap f (times-alike n f x y h)
+
+pub opens-with-reset : (z : Controller) (rest : List ℕ) (space : ℕ) → OpensWithReset z rest space
+unfolding replay
+opens-with-reset z rest space = record {
+  whole = opened-steps rest;
+  answered = opened-answered rest space;
+  same = same;
+  behind = behind-reset z [] (answeredSteps rest (space - 9));
+  range = answered-range rest (space - 9);
+  reachable = λ h r. rw (same h) (of-scripts (opened rest) space .reachable (omega arith, (omega arith, (omega arith, r))));
+}
+  where
+    same : 9 ≤ space → replay z (opened rest) space ≡ replay reset (opened rest) space
+    same h = times-alike (length (opened rest)) (advanced (opened rest) space) (begun z) (begun reset) (first-alike rest z space h)

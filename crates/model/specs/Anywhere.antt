@@ -1,0 +1,106 @@
+-- The promises about lists of steps, said of what callers and scripts can give, and behind a hardware reset in a list that
+-- begins anywhere. Document 01: "Register map" (hardware reset), "Bench script", "How far each contract reaches".
+use mathlib.Core.List.{List, [], _∷_, _++_}
+use mathlib.Core.Path.{_≡_}
+use Prim.Native.Nat.{ℕ, _-_, _^_, _<_, _≤_}
+use Rattle.model.specs.Control.{nart, txfp}
+use Rattle.model.specs.Registers.{reset, hasRequest}
+use Rattle.model.specs.Step.{step}
+use Rattle.model.specs.Requests.{Requests, noneYet, after}
+use Rattle.model.specs.Fairness.{Fairness, requestsFrom}
+use Rattle.model.specs.Reachable.{InRange, StepsRange}
+use Rattle.model.specs.Script.{replay, stepsOf}
+use Rattle.model.specs.Scripts.{answeredSteps}
+use Rattle.model.specs.declared.Mailbox.the-variants.{M0, M1, M2}
+use Rattle.model.specs.declared.Controller.{Controller}
+use Rattle.model.specs.declared.Step as steps
+use Rattle.model.specs.declared.Step.the-variants.{Reset, Read, Write, Idle, BitTimes, Activity, Start, Outcome, Receive, ReceiveError}
+
+-- ---- callers
+
+-- the numbers of a step are in the types that `Step` and `Frame` give them, as every caller's are
+abbrev pub InTypes : steps.Step → Type 0
+InTypes Reset = Unit {0}
+InTypes (Read o) = o < 2 ^ 16
+InTypes (Write o w) = (o < 2 ^ 16) × (w < 2 ^ 32)
+InTypes Idle = Unit {0}
+InTypes (BitTimes n) = n < 2 ^ 16
+InTypes Activity = Unit {0}
+InTypes Start = Unit {0}
+InTypes (Outcome r) = r < 2 ^ 8
+InTypes (Receive x) = (x .identifier < 2 ^ 32) × (x .low < 2 ^ 32) × (x .high < 2 ^ 32) × (x .length < 2 ^ 8)
+InTypes (ReceiveError k n) = (k < 2 ^ 8) × (n < 2 ^ 8)
+
+abbrev pub AllInTypes : List steps.Step → Type 0
+AllInTypes [] = Unit {0}
+AllInTypes (s ∷ l) = InTypes s × AllInTypes l
+
+-- a list of steps that callers give, from hardware reset
+pub record OfCallers (l : List steps.Step) : Type 0 where
+  pub range : AllInTypes l → StepsRange l
+  pub reachable : AllInTypes l → InRange (after reset l)
+  pub fair : Fairness reset noneYet l
+
+-- ---- scripts
+
+abbrev pub Bytes : List ℕ → Type 0
+Bytes [] = Unit {0}
+Bytes (b ∷ s) = (b < 256) × Bytes s
+
+-- a script of bytes, from hardware reset, with any reply space: its steps are such as callers give
+pub record OfScripts (s : List ℕ) (space : ℕ) : Type 0 where
+  pub types : Bytes s → AllInTypes (stepsOf s)
+  pub range : Bytes s → StepsRange (answeredSteps s space)
+  pub reachable : Bytes s → InRange (replay reset s space .result .controller)
+  pub fair : Fairness reset noneYet (answeredSteps s space)
+
+-- ---- any start
+
+-- the requests that a controller holds
+abbrev pub requestsHeld : Controller → Requests
+requestsHeld z = record {
+  outstanding = record { m0 = hasRequest (z .core) M0; m1 = hasRequest (z .core) M1; m2 = hasRequest (z .core) M2 };
+  marks = z .core .transmit .queue .aborts;
+  transmitting = z .core .transmit .queue .transmitting;
+  nart = nart (z .core .control);
+  txfp = txfp (z .core .control);
+}
+
+-- from any state in range, as one that was kept and is taken up again: an observer who then has the requests that the state
+-- holds has them ever after, and demand 3 holds
+pub record FromState (z : Controller) (l : List steps.Step) : Type 0 where
+  pub held : InRange z → requestsFrom z (requestsHeld z) l ≡ requestsHeld (after z l)
+  pub fair : InRange z → Fairness z (requestsHeld z) l
+  pub reachable : InRange z → StepsRange l → InRange (after z l)
+
+-- a hardware reset is accepted in every state, and nothing of that state is left: no request either
+pub record HardwareReset (z : Controller) : Type 0 where
+  pub controller : step z Reset .controller ≡ reset
+  pub code : step z Reset .code ≡ 0
+  pub lines : step z Reset .lines ≡ 0
+  pub word : step z Reset .word ≡ 0
+  pub requests : requestsHeld (step z Reset .controller) ≡ noneYet
+
+-- the controller after the steps before, from any controller z, and a hardware reset
+abbrev pub atReset : Controller → List steps.Step → Controller
+atReset z before = after z (before ++ Reset ∷ [])
+
+-- the steps l behind a hardware reset, in a list that begins anywhere: whatever an observer had before
+pub record BehindReset (z : Controller) (before l : List steps.Step) : Type 0 where
+  pub anew : atReset z before ≡ reset
+  pub fair : (b : Requests) → Fairness (atReset z before) (requestsFrom z b (before ++ Reset ∷ [])) l
+  pub reachable : StepsRange l → InRange (after z (before ++ Reset ∷ l))
+
+-- a script that opens with the record of a reset
+abbrev pub opened : List ℕ → List ℕ
+opened rest = 0x01 ∷ 0x00 ∷ 0x00 ∷ rest
+
+-- it gives from any controller what it gives from hardware reset; its steps are a reset and those of the rest, and with the
+-- space that the first reply leaves all that is said above holds of them
+pub record OpensWithReset (z : Controller) (rest : List ℕ) (space : ℕ) : Type 0 where
+  pub whole : stepsOf (opened rest) ≡ Reset ∷ stepsOf rest
+  pub answered : 9 ≤ space → answeredSteps (opened rest) space ≡ Reset ∷ answeredSteps rest (space - 9)
+  pub same : 9 ≤ space → replay z (opened rest) space ≡ replay reset (opened rest) space
+  pub behind : BehindReset z [] (answeredSteps rest (space - 9))
+  pub range : Bytes rest → StepsRange (answeredSteps rest (space - 9))
+  pub reachable : 9 ≤ space → Bytes rest → InRange (replay z (opened rest) space .result .controller)
