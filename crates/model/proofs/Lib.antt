@@ -35,3 +35,7 @@ pub mod Readings
 pub mod Replays
 pub mod Tied
 pub mod WriteRanges
+pub mod Arrivals
+pub mod BusErrors
+pub mod HistoryReads
+pub mod Timing

@@ -1,146 +1,178 @@
 -- A FIFO holds the frames that the history says.
-use mathlib.Core.Bool.{Bool, true, false, not, _&&_, _||_, true≢false, false≢true}
+use mathlib.Core.Bool.{Bool, true, false, not, _&&_}
 use mathlib.Core.Path.{_≡_, refl, sym, subst, ap, _∙_}
-use mathlib.Core.List.{List, [], _∷_, _++_}
-use Prim.Native.Nat.{ℕ, suc, _+_, _*_, _-_, _/_, _%_, _^_, _≤_, _<_}
-use native.Mathlib.Omega.{arith}
-use lib.Dec.{eqb, ltb, leb}
-use lib.ListN.{length}
-use Rattle.model.specs.Base.{pick, bit, bits, one}
+use mathlib.Core.List.{List, [], _∷_}
+use Prim.Native.Nat.{ℕ, _+_, _*_, _/_}
+use lib.Dec.{eqb}
+use borrow.Author.Tests.{eqb-true}
+use Rattle.model.specs.Base.{pick, bit}
 use Rattle.model.specs.Mailboxes.{at}
 use Rattle.model.specs.Search.{acceptance}
-use Rattle.model.specs.Reception.{storedFrame, sentFrame, goesInto, fmiOf, noFrame, emptyFifo, pushed, received, released, cleared, rfrWritten, rfrWord, output}
-use Rattle.model.specs.Control.{rflm}
-use Rattle.model.specs.Registers.{registerAt, bankCount, reset, coreReset, written, fifoOf, withControl}
+use Rattle.model.specs.Reception.{storedFrame, sentFrame, goesInto, fmiOf, received, rfrWritten}
+use Rattle.model.specs.Control.{rflm, lbkm, controlReset}
+use Rattle.model.specs.Registers.{registerAt, bankCount, reset, coreReset, written, fifoOf, withErrors}
 use Rattle.model.specs.Step.{step, answered, coreAfter, refusal, applied, settled, storedBy, startedBy, endedBy, loopedBack}
+use Rattle.model.specs.Requests.{next, event, entry, after}
 use Rattle.model.specs.Codes.{fifoNumber}
-use Rattle.model.specs.History.{Traffic, none, empties, releases, arrives, writeTraffic, endTraffic, stepTraffic, traffic, isDone, waitingNext, waitingFrom, oldestFrame}
-use Rattle.model.specs.Requests.{after}
+use Rattle.model.specs.Reachable.{InRange, StepsRange}
+use Rattle.model.specs.History.{shown, Traffic, none, empties, releases, arrives, arrival, writeTraffic, endTraffic, stepTraffic, traffic, filtered, waitingNext, waitingFrom, frames}
+use Rattle.model.specs.declared.Mailbox.{Mailbox}
+use Rattle.model.specs.declared.MailboxState.{MailboxState}
 use Rattle.model.specs.declared.Sender.{Sender}
 use Rattle.model.specs.declared.Sender.the-variants.{Nobody, From}
 use Rattle.model.specs.declared.Fifo.{Fifo}
 use Rattle.model.specs.declared.Fifo.the-variants.{F0, F1}
 use Rattle.model.specs.declared.StoredFrame.{StoredFrame}
-use Rattle.model.specs.declared.FifoState.{FifoState}
+use Rattle.model.specs.declared.Frame.{Frame}
 use Rattle.model.specs.declared.Acceptance.{Acceptance}
+use Rattle.model.specs.declared.Acceptance.the-variants.{Into, Rejected}
+use Rattle.model.specs.declared.Control as controls
+use Rattle.model.specs.declared.Errors.{Errors}
 use Rattle.model.specs.declared.Core.{Core}
 use Rattle.model.specs.declared.Controller.{Controller}
 use Rattle.model.specs.declared.Register.{Register}
 use Rattle.model.specs.declared.Register.the-variants.{Mcr, Msr, Tsr, Rfr, Ier, Esr, Btr, Ti, Tdt, Tdl, Tdh, Ri, Rdt, Rdl, Rdh, Fmr, Fm1r, Fs1r, Ffa1r, Fa1r, R1, R2, Absent}
 use Rattle.model.specs.declared.Step as steps
 use Rattle.model.specs.declared.Step.the-variants.{Reset, Read, Write, Idle, BitTimes, Activity, Start, Outcome, Receive, ReceiveError}
-use Rattle.model.proofs.Choices.{one-le}
-
--- the frames of a FIFO, by its count
-pub data Holds (q : FifoState) : List StoredFrame → Type 0 where
-  no-frame : q .count ≡ 0 → Holds q []
-  one-frame : q .count ≡ 1 → Holds q (q .first ∷ [])
-  two-frames : q .count ≡ 2 → Holds q (q .first ∷ q .second ∷ [])
-  three-frames : q .count ≡ 3 → Holds q (q .first ∷ q .second ∷ q .third ∷ [])
-
--- ---- what happens to a FIFO
-
-holds-pushed : (q : FifoState) (l : List StoredFrame) (x : StoredFrame) (locked : Bool) → Holds q l → Holds (pushed q x locked) (waitingNext l (arrives x locked))
-unfolding pushed
-holds-pushed q l x locked (no-frame e) = rw e (one-frame refl)
-holds-pushed q l x locked (one-frame e) = rw e (two-frames refl)
-holds-pushed q l x locked (two-frames e) = rw e (three-frames refl)
-holds-pushed q l x true (three-frames e) = rw e (three-frames refl)
-holds-pushed q l x false (three-frames e) = rw e (three-frames refl)
-
-holds-received : (b : Bool) (q : FifoState) (l : List StoredFrame) (x : StoredFrame) (locked : Bool) → Holds q l
-    → Holds (pick b (pushed q x locked) q) (waitingNext l (pick b (arrives x locked) none))
-holds-received true q l x locked h = holds-pushed q l x locked h
-holds-received false q l x locked h = h
-
-holds-released : (q : FifoState) (l : List StoredFrame) → Holds q l → Holds (released q) (waitingNext l releases)
-unfolding released
-holds-released q l (no-frame e) = rw e (no-frame refl)
-holds-released q l (one-frame e) = rw e (no-frame refl)
-holds-released q l (two-frames e) = rw e (one-frame refl)
-holds-released q l (three-frames e) = rw e (two-frames refl)
-
-holds-cleared : (q : FifoState) (l : List StoredFrame) (w : ℕ) → Holds q l → Holds (cleared q w) l
-unfolding cleared
-holds-cleared q l w (no-frame e) = no-frame e
-holds-cleared q l w (one-frame e) = one-frame e
-holds-cleared q l w (two-frames e) = two-frames e
-holds-cleared q l w (three-frames e) = three-frames e
-
--- b: the write has RFOM
-holds-written : (b : Bool) (q : FifoState) (l : List StoredFrame) (w : ℕ) → Holds q l
-    → Holds (pick b (released (cleared q w)) (cleared q w)) (waitingNext l (pick b releases none))
-holds-written true q l w h = holds-released (cleared q w) l (holds-cleared q l w h)
-holds-written false q l w h = holds-cleared q l w h
-
--- ---- every step
+use Rattle.model.proofs.Mapped.{map}
+use Rattle.model.proofs.Views.{requestsOf, requests-follow}
+use Rattle.model.proofs.Follows.{viewOf, follows}
+use Rattle.model.proofs.Arrivals.{Holds, no-frame, holds-received, holds-written}
+use Rattle.model.proofs.HistoryReads.{not-here, mcr-read, btr-read, finit-read, mailbox-read, frame-read, filtered-read}
+use Rattle.model.proofs.Reached.{reset-in-range, step-in-range}
+use Rattle.model.proofs.Timing.{step-timer}
 
 abbrev Keeps : Fifo → Core → Core → Traffic → Type 0
 Keeps f c d x = (l : List StoredFrame) → Holds (fifoOf f c) l → Holds (fifoOf f d) (waitingNext l x)
 
-reset-keeps : (b : Bool) (f : Fifo) (c d : Core) → fifoOf f d ≡ fifoOf f c → Keeps f c (pick b (coreReset c) d) (pick b empties none)
+-- ---- writes
+
+other-writes : (f : Fifo) (r : Register) (c : Core) (w : ℕ) → (r ≡ Mcr → ⊥) → (r ≡ Rfr f → ⊥) → fifoOf f (written r c w) ≡ fifoOf f c
+unfolding written
+other-writes f Mcr c w m e = absurd (m refl)
+other-writes F0 (Rfr F0) c w m e = absurd (e refl)
+other-writes F0 (Rfr F1) c w m e = refl
+other-writes F1 (Rfr F0) c w m e = refl
+other-writes F1 (Rfr F1) c w m e = absurd (e refl)
+other-writes F0 Msr c w m e = refl
+other-writes F1 Msr c w m e = refl
+other-writes F0 Tsr c w m e = refl
+other-writes F1 Tsr c w m e = refl
+other-writes F0 Ier c w m e = refl
+other-writes F1 Ier c w m e = refl
+other-writes F0 Esr c w m e = refl
+other-writes F1 Esr c w m e = refl
+other-writes F0 Btr c w m e = refl
+other-writes F1 Btr c w m e = refl
+other-writes F0 (Ti x) c w m e = refl
+other-writes F1 (Ti x) c w m e = refl
+other-writes F0 (Tdt x) c w m e = refl
+other-writes F1 (Tdt x) c w m e = refl
+other-writes F0 (Tdl x) c w m e = refl
+other-writes F1 (Tdl x) c w m e = refl
+other-writes F0 (Tdh x) c w m e = refl
+other-writes F1 (Tdh x) c w m e = refl
+other-writes F0 (Ri g) c w m e = refl
+other-writes F1 (Ri g) c w m e = refl
+other-writes F0 (Rdt g) c w m e = refl
+other-writes F1 (Rdt g) c w m e = refl
+other-writes F0 (Rdl g) c w m e = refl
+other-writes F1 (Rdl g) c w m e = refl
+other-writes F0 (Rdh g) c w m e = refl
+other-writes F1 (Rdh g) c w m e = refl
+other-writes F0 Fmr c w m e = refl
+other-writes F1 Fmr c w m e = refl
+other-writes F0 Fm1r c w m e = refl
+other-writes F1 Fm1r c w m e = refl
+other-writes F0 Fs1r c w m e = refl
+other-writes F1 Fs1r c w m e = refl
+other-writes F0 Ffa1r c w m e = refl
+other-writes F1 Ffa1r c w m e = refl
+other-writes F0 Fa1r c w m e = refl
+other-writes F1 Fa1r c w m e = refl
+other-writes F0 (R1 b) c w m e = refl
+other-writes F1 (R1 b) c w m e = refl
+other-writes F0 (R2 b) c w m e = refl
+other-writes F1 (R2 b) c w m e = refl
+other-writes F0 Absent c w m e = refl
+other-writes F1 Absent c w m e = refl
+
+mcr-write : (b : Bool) (f : Fifo) (c d : Core) → fifoOf f d ≡ fifoOf f c → Keeps f c (pick b (coreReset c) d) (pick b empties none)
 unfolding coreReset
-reset-keeps true F0 c d e l h = no-frame refl
-reset-keeps true F1 c d e l h = no-frame refl
-reset-keeps false f c d e l h = rw e h
+mcr-write true F0 c d e l h = no-frame refl
+mcr-write true F1 c d e l h = no-frame refl
+mcr-write false f c d e l h = rw e h
 
-written-keeps : (f : Fifo) (r : Register) (c : Core) (w : ℕ) → Keeps f c (written r c w) (writeTraffic f r w)
+rfr-write : (f : Fifo) (c : Core) (w : ℕ) → Keeps f c (written (Rfr f) c w) (pick (bit 5 w) releases none)
 unfolding written rfrWritten
-written-keeps F0 Mcr c w = reset-keeps (bit 15 w) F0 c _ refl
-written-keeps F1 Mcr c w = reset-keeps (bit 15 w) F1 c _ refl
-written-keeps F0 (Rfr F0) c w = λ l h. holds-written (bit 5 w) (c .fifo0) l w h
-written-keeps F0 (Rfr F1) c w = λ l h. h
-written-keeps F1 (Rfr F0) c w = λ l h. h
-written-keeps F1 (Rfr F1) c w = λ l h. holds-written (bit 5 w) (c .fifo1) l w h
-written-keeps F0 Msr c w = λ l h. h
-written-keeps F1 Msr c w = λ l h. h
-written-keeps F0 Tsr c w = λ l h. h
-written-keeps F1 Tsr c w = λ l h. h
-written-keeps F0 Ier c w = λ l h. h
-written-keeps F1 Ier c w = λ l h. h
-written-keeps F0 Esr c w = λ l h. h
-written-keeps F1 Esr c w = λ l h. h
-written-keeps F0 Btr c w = λ l h. h
-written-keeps F1 Btr c w = λ l h. h
-written-keeps F0 (Ti m) c w = λ l h. h
-written-keeps F1 (Ti m) c w = λ l h. h
-written-keeps F0 (Tdt m) c w = λ l h. h
-written-keeps F1 (Tdt m) c w = λ l h. h
-written-keeps F0 (Tdl m) c w = λ l h. h
-written-keeps F1 (Tdl m) c w = λ l h. h
-written-keeps F0 (Tdh m) c w = λ l h. h
-written-keeps F1 (Tdh m) c w = λ l h. h
-written-keeps F0 (Ri g) c w = λ l h. h
-written-keeps F1 (Ri g) c w = λ l h. h
-written-keeps F0 (Rdt g) c w = λ l h. h
-written-keeps F1 (Rdt g) c w = λ l h. h
-written-keeps F0 (Rdl g) c w = λ l h. h
-written-keeps F1 (Rdl g) c w = λ l h. h
-written-keeps F0 (Rdh g) c w = λ l h. h
-written-keeps F1 (Rdh g) c w = λ l h. h
-written-keeps F0 Fmr c w = λ l h. h
-written-keeps F1 Fmr c w = λ l h. h
-written-keeps F0 Fm1r c w = λ l h. h
-written-keeps F1 Fm1r c w = λ l h. h
-written-keeps F0 Fs1r c w = λ l h. h
-written-keeps F1 Fs1r c w = λ l h. h
-written-keeps F0 Ffa1r c w = λ l h. h
-written-keeps F1 Ffa1r c w = λ l h. h
-written-keeps F0 Fa1r c w = λ l h. h
-written-keeps F1 Fa1r c w = λ l h. h
-written-keeps F0 (R1 b) c w = λ l h. h
-written-keeps F1 (R1 b) c w = λ l h. h
-written-keeps F0 (R2 b) c w = λ l h. h
-written-keeps F1 (R2 b) c w = λ l h. h
-written-keeps F0 Absent c w = λ l h. h
-written-keeps F1 Absent c w = λ l h. h
+rfr-write F0 c w = λ l h. holds-written (bit 5 w) (c .fifo0) l w h
+rfr-write F1 c w = λ l h. holds-written (bit 5 w) (c .fifo1) l w h
 
--- in loopback the filters send a good frame to the one or the other FIFO
-end-keeps : (f : Fifo) (v : Sender) (c : Core) (b : List ℕ) (r : ℕ) → Keeps f c (endedBy v c b r) (endTraffic f v c b r)
-unfolding endedBy storedBy received
-end-keeps f Nobody c b r = λ l h. h
-end-keeps F0 (From m) c b r = λ l h. holds-received (goesInto F0 (loopedBack c b m r)) (c .fifo0) l _ (rflm (c .control)) h
-end-keeps F1 (From m) c b r = λ l h. holds-received (goesInto F1 (loopedBack c b m r)) (c .fifo1) l _ (rflm (c .control)) h
+-- m: MCR; e: this FIFO's RFxR
+write-keeps : (m e : Bool) (f : Fifo) (o : ℕ) (c : Core) (w : ℕ) → eqb o 0x000 ≡ m → eqb o (0x00C + 4 * fifoNumber f) ≡ e → Keeps f c (written (registerAt o) c w) (writeTraffic f o w)
+unfolding written
+write-keeps true e F0 o c w p q = λ l h. rw (eqb-true o 0x000 p, map .found Mcr tt) (mcr-write (bit 15 w) F0 c _ refl l h)
+write-keeps true e F1 o c w p q = λ l h. rw (eqb-true o 0x000 p, map .found Mcr tt) (mcr-write (bit 15 w) F1 c _ refl l h)
+write-keeps false true F0 o c w p q = λ l h. rw (eqb-true o 0x00C q, map .found (Rfr F0) tt) (rfr-write F0 c w l h)
+write-keeps false true F1 o c w p q = λ l h. rw (eqb-true o 0x010 q, map .found (Rfr F1) tt) (rfr-write F1 c w l h)
+write-keeps false false f o c w p q = λ l h. rw (p, q, other-writes f (registerAt o) c w (not-here o Mcr refl p) (not-here o (Rfr f) refl q)) h
+
+-- ---- arrivals
+
+-- a frame arrives where the filters send it
+arrival-known : (f : Fifo) (a : Acceptance) (x : Frame) (time : ℕ) (locked : Bool) → arrival f a x time locked ≡ pick (goesInto f a) (arrives (storedFrame x (fmiOf a) time) locked) none
+arrival-known F0 (Into F0 n) x time locked = refl
+arrival-known F0 (Into F1 n) x time locked = refl
+arrival-known F1 (Into F0 n) x time locked = refl
+arrival-known F1 (Into F1 n) x time locked = refl
+arrival-known F0 Rejected x time locked = refl
+arrival-known F1 Rejected x time locked = refl
+
+stored-keeps : (f : Fifo) (c : Core) (a : Acceptance) (x : Frame) (time : ℕ) → Keeps f c (storedBy c a x time) (arrival f a x time (rflm (c .control)))
+unfolding storedBy received
+stored-keeps F0 c a x time = λ l h. rw (arrival-known F0 a x time (rflm (c .control))) (holds-received (goesInto F0 a) (c .fifo0) l _ (rflm (c .control)) h)
+stored-keeps F1 c a x time = λ l h. rw (arrival-known F1 a x time (rflm (c .control))) (holds-received (goesInto F1 a) (c .fifo1) l _ (rflm (c .control)) h)
+
+with-errors-fifo : (f : Fifo) (c : Core) (k : controls.Control) (e : Errors) → fifoOf f (withErrors c k e) ≡ fifoOf f c
+with-errors-fifo F0 c k e = refl
+with-errors-fifo F1 c k e = refl
+
+looped : (b : Bool) (f : Fifo) (a : Acceptance) (x : Frame) (time : ℕ) (locked : Bool) → pick b (arrival f a x time locked) none ≡ arrival f (pick b a Rejected) x time locked
+looped true f a x time locked = refl
+looped false f a x time locked = refl
+
+module _ (z : Controller) (i : InRange z) where
+  rflm-read : bit 3 (shown z 0x000) ≡ rflm (z .core .control)
+  rflm-read = ap (λ (w : ℕ). bit 3 w) (mcr-read z)
+
+  receive-known : (f : Fifo) (x : Frame)
+      → arrival f (filtered z (x .identifier)) x (z .core .control .timer) (bit 3 (shown z 0x000))
+      ≡ arrival f (acceptance bankCount (z .core .filters) (z .banks) (x .identifier)) x (z .core .control .timer) (rflm (z .core .control))
+  receive-known f x = λ j. arrival f (filtered-read z (x .identifier) i j) x (z .core .control .timer) (rflm-read j)
+
+  module _ (m : Mailbox) where
+    abbrev x : MailboxState
+    x = at (z .core .transmit .mailboxes) m
+
+    sent-known : (f : Fifo) (r : ℕ) → endTraffic f (From m) z r ≡ arrival f (loopedBack (z .core) (z .banks) m r) (sentFrame x) (x .tdt / 65536) (rflm (z .core .control))
+    unfolding loopedBack
+    sent-known f r =
+        (λ j. pick (eqb r 0 && bit 30 (btr-read z j) && not (finit-read z j))
+        (arrival f (filtered-read z (frame-read z m i j .identifier) i j) (frame-read z m i j) (mailbox-read z m .tdt j / 65536) (rflm-read j))
+        none)
+        ∙ looped (eqb r 0 && lbkm (z .core .control) && not (z .core .filters .finit)) f _ (sentFrame x) (x .tdt / 65536) (rflm (z .core .control))
+
+    end-keeps : (f : Fifo) (r : ℕ) → Keeps f (z .core) (endedBy (From m) (z .core) (z .banks) r) (endTraffic f (From m) z r)
+    unfolding endedBy
+    end-keeps F0 r = λ l h. rw (sent-known F0 r) (stored-keeps F0 (z .core) (loopedBack (z .core) (z .banks) m r) (sentFrame x) (x .tdt / 65536) l h)
+    end-keeps F1 r = λ l h. rw (sent-known F1 r) (stored-keeps F1 (z .core) (loopedBack (z .core) (z .banks) m r) (sentFrame x) (x .tdt / 65536) l h)
+
+  ends-keep : (f : Fifo) (v : Sender) (r : ℕ) → Keeps f (z .core) (endedBy v (z .core) (z .banks) r) (endTraffic f v z r)
+  unfolding endedBy
+  ends-keep f Nobody r = λ l h. h
+  ends-keep f (From m) r = end-keeps m f r
+
+-- ---- every step
 
 start-keeps : (f : Fifo) (v : Sender) (c : Core) → fifoOf f (startedBy v c) ≡ fifoOf f c
 unfolding startedBy
@@ -148,24 +180,26 @@ start-keeps f Nobody c = refl
 start-keeps F0 (From m) c = refl
 start-keeps F1 (From m) c = refl
 
-applied-keeps : (f : Fifo) (c : Core) (b : List ℕ) (s : steps.Step) → Keeps f c (applied c b s) (stepTraffic f c b s)
-unfolding applied reset storedBy received
-applied-keeps F0 c b Reset = λ l h. no-frame refl
-applied-keeps F1 c b Reset = λ l h. no-frame refl
-applied-keeps f c b (Read o) = λ l h. h
-applied-keeps f c b (Write o w) = written-keeps f (registerAt o) c w
-applied-keeps F0 c b Idle = λ l h. h
-applied-keeps F1 c b Idle = λ l h. h
-applied-keeps F0 c b (BitTimes n) = λ l h. h
-applied-keeps F1 c b (BitTimes n) = λ l h. h
-applied-keeps F0 c b Activity = λ l h. h
-applied-keeps F1 c b Activity = λ l h. h
-applied-keeps f c b Start = λ l h. rw (start-keeps f _ c) h
-applied-keeps f c b (Outcome r) = end-keeps f (c .transmit .queue .transmitting) c b r
-applied-keeps F0 c b (Receive x) = λ l h. holds-received (goesInto F0 (acceptance bankCount (c .filters) b (x .identifier))) (c .fifo0) l _ (rflm (c .control)) h
-applied-keeps F1 c b (Receive x) = λ l h. holds-received (goesInto F1 (acceptance bankCount (c .filters) b (x .identifier))) (c .fifo1) l _ (rflm (c .control)) h
-applied-keeps F0 c b (ReceiveError k n) = λ l h. h
-applied-keeps F1 c b (ReceiveError k n) = λ l h. h
+applied-keeps : (f : Fifo) (z : Controller) (s : steps.Step) → InRange z
+    → Keeps f (z .core) (applied (z .core) (z .banks) s) (stepTraffic f (z .core .control .timer) (z .core .transmit .queue .transmitting) z s)
+unfolding applied reset
+applied-keeps F0 z Reset i = λ l h. no-frame refl
+applied-keeps F1 z Reset i = λ l h. no-frame refl
+applied-keeps f z (Read o) i = λ l h. h
+applied-keeps f z (Write o w) i = write-keeps (eqb o 0x000) (eqb o (0x00C + 4 * fifoNumber f)) f o (z .core) w refl refl
+applied-keeps F0 z Idle i = λ l h. h
+applied-keeps F1 z Idle i = λ l h. h
+applied-keeps F0 z (BitTimes n) i = λ l h. h
+applied-keeps F1 z (BitTimes n) i = λ l h. h
+applied-keeps F0 z Activity i = λ l h. h
+applied-keeps F1 z Activity i = λ l h. h
+applied-keeps f z Start i = λ l h. rw (start-keeps f _ (z .core)) h
+applied-keeps f z (Outcome r) i = ends-keep z i f (z .core .transmit .queue .transmitting) r
+applied-keeps f z (Receive x) i =
+    λ l h. rw (receive-known z i f x, with-errors-fifo f _ _ _)
+    (stored-keeps f (z .core) (acceptance bankCount (z .core .filters) (z .banks) (x .identifier)) x (z .core .control .timer) l h)
+applied-keeps F0 z (ReceiveError k n) i = λ l h. h
+applied-keeps F1 z (ReceiveError k n) i = λ l h. h
 
 settled-fifo : (f : Fifo) (c : Core) → fifoOf f (settled c) ≡ fifoOf f c
 unfolding settled
@@ -176,37 +210,30 @@ by-code : (ok : Bool) (f : Fifo) (c d : Core) (x : Traffic) → Keeps f c d x �
 by-code true f c d x k l h = rw (settled-fifo f d) (k l h)
 by-code false f c d x k l h = h
 
-step-keeps : (f : Fifo) (z : Controller) (s : steps.Step) (l : List StoredFrame) → Holds (fifoOf f (z .core)) l
-    → Holds (fifoOf f (step z s .controller .core)) (waitingNext l (traffic f z s))
+step-keeps : (f : Fifo) (z : Controller) (s : steps.Step) (l : List StoredFrame) → InRange z → Holds (fifoOf f (z .core)) l
+    → Holds (fifoOf f (step z s .controller .core)) (waitingNext l (traffic f (z .core .control .timer) (z .core .transmit .queue .transmitting) z s))
 unfolding step answered coreAfter
-step-keeps f z s l h = by-code (isDone z s) f (z .core) _ _ (applied-keeps f (z .core) (z .banks) s) l h
+step-keeps f z s l i h = by-code (eqb (refusal (z .core) s) 0) f (z .core) _ _ (applied-keeps f z s i) l h
 
-pub holds-after : (f : Fifo) (l : List StoredFrame) (z : Controller) (r : List steps.Step) → Holds (fifoOf f (z .core)) l
-    → Holds (fifoOf f (after z r .core)) (waitingFrom f l z r)
+-- the requests as the observer has them
+step-requests : (z : Controller) (s : steps.Step) → InRange z → next (requestsOf (viewOf (z .core))) (event (entry s (step z s))) ≡ requestsOf (viewOf (step z s .controller .core))
+step-requests z s i =
+    requests-follow (viewOf (z .core)) (event (entry s (step z s))) (record { once = i .core .transmit .queue .once; wired = i .core .transmit .queue .carries }) (follows z s .granted)
+    ∙ ap requestsOf (sym (follows z s .view))
+
+abbrev framesFrom : Fifo → List StoredFrame → Controller → List steps.Step → List StoredFrame
+framesFrom f l z r = waitingFrom f l (z .core .control .timer) (requestsOf (viewOf (z .core))) z r
+
+holds-from : (f : Fifo) (l : List StoredFrame) (z : Controller) (r : List steps.Step) → InRange z → StepsRange r → Holds (fifoOf f (z .core)) l
+    → Holds (fifoOf f (after z r .core)) (framesFrom f l z r)
 unfolding after waitingFrom
-holds-after f l z [] h = h
-holds-after f l z (s ∷ r) h = holds-after f (waitingNext l (traffic f z s)) (step z s .controller) r (step-keeps f z s l h)
+holds-from f l z [] i h k = k
+holds-from f l z (s ∷ r) i h k =
+    subst (λ (x : List StoredFrame). Holds (fifoOf f (after (step z s .controller) r .core)) x)
+    (λ j. waitingFrom f (waitingNext l (traffic f (z .core .control .timer) (z .core .transmit .queue .transmitting) z s)) (step-timer z s i (h .0) j) (sym (step-requests z s i) j) (step z s .controller) r)
+    (holds-from f _ (step z s .controller) r (step-in-range z s i (h .0)) (h .1) (step-keeps f z s l i k))
 
-pub holds-reset : (f : Fifo) → Holds (fifoOf f (reset .core)) []
-unfolding reset
-holds-reset F0 = no-frame refl
-holds-reset F1 = no-frame refl
-
--- ---- what the registers read
-
-fmp-word : (q : FifoState) (n : ℕ) → q .count ≡ n → n ≤ 3 → bits 0 2 (rfrWord q) ≡ n
-unfolding rfrWord
-fmp-word q n e h = omega (arith, one-le (q .full), one-le (q .fovr))
-
-pub fmp-read : (q : FifoState) (l : List StoredFrame) → Holds q l → bits 0 2 (rfrWord q) ≡ length l
-fmp-read q l (no-frame e) = fmp-word q 0 e (omega arith)
-fmp-read q l (one-frame e) = fmp-word q 1 e (omega arith)
-fmp-read q l (two-frames e) = fmp-word q 2 e (omega arith)
-fmp-read q l (three-frames e) = fmp-word q 3 e (omega arith)
-
-pub output-read : (q : FifoState) (l : List StoredFrame) → Holds q l → output q ≡ oldestFrame l
-unfolding output
-output-read q l (no-frame e) = rw e
-output-read q l (one-frame e) = rw e
-output-read q l (two-frames e) = rw e
-output-read q l (three-frames e) = rw e
+pub holds-reset : (f : Fifo) (l : List steps.Step) → StepsRange l → Holds (fifoOf f (after reset l .core)) (frames f reset l)
+unfolding reset controlReset
+holds-reset F0 l h = holds-from F0 [] reset l reset-in-range h (no-frame refl)
+holds-reset F1 l h = holds-from F1 [] reset l reset-in-range h (no-frame refl)

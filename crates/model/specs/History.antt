@@ -1,39 +1,89 @@
--- What a FIFO holds, TEC and the recovery count, worked out from the history of steps and not from what is stored.
+-- What a FIFO holds, the error counters and the recovery count, worked out from the history of steps and not from what is stored.
 -- Document 01: "How far each contract reaches" (FMP, TEC and idle counts are tied to stored frames and events).
-use mathlib.Core.Bool.{Bool, true, false, not, _&&_, _||_}
+use mathlib.Core.Bool.{Bool, false, not, _&&_, _||_}
 use mathlib.Core.List.{List, [], _∷_, _++_}
 use mathlib.Core.Path.{_≡_}
-use Prim.Native.Nat.{ℕ, _+_, _-_, _*_, _/_, _%_}
-use lib.Dec.{eqb, ltb, leb}
+use Prim.Native.Nat.{ℕ, zero, suc, _+_, _-_, _*_, _/_, _%_}
+use lib.Dec.{eqb, ltb}
 use lib.ListN.{length, take}
 use Rattle.model.specs.Base.{pick, bit, bits}
-use Rattle.model.specs.Mailboxes.{at}
+use Rattle.model.specs.Queue.{number}
+use Rattle.model.specs.Mailboxes.{sentIdentifier}
 use Rattle.model.specs.Search.{acceptance}
-use Rattle.model.specs.Reception.{noFrame, storedFrame, sentFrame, goesInto, fmiOf}
-use Rattle.model.specs.Control.{rflm, abom, isInitialization, isNormal}
-use Rattle.model.specs.Registers.{registerAt, bankCount, reset}
-use Rattle.model.specs.Step.{step, refusal, loopedBack}
-use Rattle.model.specs.Requests.{after}
+use Rattle.model.specs.Reception.{noFrame, storedFrame}
+use Rattle.model.specs.Registers.{bankCount}
+use Rattle.model.specs.Step.{step}
+use Rattle.model.specs.Requests.{Requests, noneYet, next, event, entry, after}
 use Rattle.model.specs.Codes.{fifoNumber}
+use Rattle.model.specs.declared.Mailbox.{Mailbox}
 use Rattle.model.specs.declared.Sender.{Sender}
 use Rattle.model.specs.declared.Sender.the-variants.{Nobody, From}
 use Rattle.model.specs.declared.Fifo.{Fifo}
-use Rattle.model.specs.declared.Fifo.the-variants.{F0, F1}
 use Rattle.model.specs.declared.StoredFrame.{StoredFrame}
 use Rattle.model.specs.declared.Frame.{Frame}
+use Rattle.model.specs.declared.Filters.{Filters}
 use Rattle.model.specs.declared.Acceptance.{Acceptance}
-use Rattle.model.specs.declared.Core.{Core}
+use Rattle.model.specs.declared.Acceptance.the-variants.{Into, Rejected}
 use Rattle.model.specs.declared.Controller.{Controller}
-use Rattle.model.specs.declared.Register.{Register}
-use Rattle.model.specs.declared.Register.the-variants.{Mcr, Msr, Tsr, Rfr, Ier, Esr, Btr, Ti, Tdt, Tdl, Tdh, Ri, Rdt, Rdl, Rdh, Fmr, Fm1r, Fs1r, Ffa1r, Fa1r, R1, R2, Absent}
 use Rattle.model.specs.declared.Step as steps
 use Rattle.model.specs.declared.Step.the-variants.{Reset, Read, Write, Idle, BitTimes, Activity, Start, Outcome, Receive, ReceiveError}
 
+-- the word that a read gives
+abbrev pub shown : Controller → ℕ → ℕ
+shown z o = step z (Read o) .word
+
 -- the step is accepted
 abbrev pub isDone : Controller → steps.Step → Bool
-isDone z s = eqb (refusal (z .core) s) 0
+isDone z s = eqb (step z s .code) 0
+
+-- MSR: INAK=0 and SLAK=0
+abbrev pub inNormal : Controller → Bool
+inNormal z = not (bit 0 (shown z 0x004)) && not (bit 1 (shown z 0x004))
+
+-- the words of n registers from an offset on
+unfoldable pub wordsFrom : Controller → ℕ → ℕ → List ℕ
+wordsFrom z o zero = []
+wordsFrom z o (suc n) = shown z o ∷ wordsFrom z (o + 4) n
+
+-- ---- the timer
+
+abbrev pub ticks : steps.Step → ℕ
+ticks Reset = 0
+ticks (Read o) = 0
+ticks (Write o w) = 0
+ticks Idle = 0
+ticks (BitTimes n) = n
+ticks Activity = 0
+ticks Start = 0
+ticks (Outcome r) = 0
+ticks (Receive x) = 0
+ticks (ReceiveError k n) = 0
+
+-- in Normal with TTCM=1 it adds n; after 65535 it reads 0; while TTCM=0 it is 0
+abbrev pub timerNext : ℕ → Controller → steps.Step → ℕ
+timerNext t z s = pick (bit 7 (shown (step z s .controller) 0x000)) (pick (isDone z s && inNormal z) ((t + ticks s) % 65536) t) 0
+
+unfoldable pub timerFrom : ℕ → Controller → List steps.Step → ℕ
+timerFrom t z [] = t
+timerFrom t z (s ∷ l) = timerFrom (timerNext t z s) (step z s .controller) l
 
 -- ---- the frames that wait in a FIFO
+
+-- where the filters send a frame with this identifier word: FM1R, FS1R, FFA1R, FA1R, FINIT, and R1 and R2 of each bank as they read
+abbrev pub filtersShown : Controller → Filters
+filtersShown z = record { mode = shown z 0x204; scale = shown z 0x20C; assignment = shown z 0x214; activation = shown z 0x21C; finit = bit 0 (shown z 0x200) }
+
+abbrev pub filtered : Controller → ℕ → Acceptance
+filtered z w = acceptance bankCount (filtersShown z) (wordsFrom z 0x240 (2 * bankCount)) w
+
+-- what mailbox m sends: TI without TXRQ, TDT, TDL, TDH
+abbrev pub frameIn : Controller → Mailbox → Frame
+frameIn z m = record {
+  identifier = sentIdentifier (shown z (0x180 + 0x10 * number m) / 2 * 2);
+  low = shown z (0x188 + 0x10 * number m);
+  high = shown z (0x18C + 0x10 * number m);
+  length = bits 0 4 (shown z (0x184 + 0x10 * number m));
+}
 
 -- what an accepted step means to a FIFO; an arriving frame comes with RFLM
 pub data Traffic : Type 0 where
@@ -45,54 +95,38 @@ pub data Traffic : Type 0 where
 abbrev pub sameFifo : Fifo → Fifo → Bool
 sameFifo f g = eqb (fifoNumber f) (fifoNumber g)
 
+-- a frame arrives where the filters send it, and nowhere else
 abbrev pub arrival : Fifo → Acceptance → Frame → ℕ → Bool → Traffic
-arrival f a x time locked = pick (goesInto f a) (arrives (storedFrame x (fmiOf a) time) locked) none
+arrival f (Into g n) x time locked = pick (sameFifo f g) (arrives (storedFrame x (n .0) time) locked) none
+arrival f Rejected x time locked = none
 
-abbrev pub writeTraffic : Fifo → Register → ℕ → Traffic
-writeTraffic f Mcr w = pick (bit 15 w) empties none
-writeTraffic f Msr w = none
-writeTraffic f Tsr w = none
-writeTraffic f (Rfr g) w = pick (sameFifo f g && bit 5 w) releases none
-writeTraffic f Ier w = none
-writeTraffic f Esr w = none
-writeTraffic f Btr w = none
-writeTraffic f (Ti m) w = none
-writeTraffic f (Tdt m) w = none
-writeTraffic f (Tdl m) w = none
-writeTraffic f (Tdh m) w = none
-writeTraffic f (Ri g) w = none
-writeTraffic f (Rdt g) w = none
-writeTraffic f (Rdl g) w = none
-writeTraffic f (Rdh g) w = none
-writeTraffic f Fmr w = none
-writeTraffic f Fm1r w = none
-writeTraffic f Fs1r w = none
-writeTraffic f Ffa1r w = none
-writeTraffic f Fa1r w = none
-writeTraffic f (R1 b) w = none
-writeTraffic f (R2 b) w = none
-writeTraffic f Absent w = none
+-- MCR with bit 15 set; RFxR with RFOM
+abbrev pub writeTraffic : Fifo → ℕ → ℕ → Traffic
+writeTraffic f o w = pick (eqb o 0x000 && bit 15 w) empties (pick (eqb o (0x00C + 4 * fifoNumber f) && bit 5 w) releases none)
 
--- in loopback the frame of the mailbox on the wire arrives, with the mailbox's TIME
-abbrev pub endTraffic : Fifo → Sender → Core → List ℕ → ℕ → Traffic
-endTraffic f Nobody c v r = none
-endTraffic f (From m) c v r =
-    arrival f (loopedBack c v m r) (sentFrame (at (c .transmit .mailboxes) m)) (at (c .transmit .mailboxes) m .tdt / 65536) (rflm (c .control))
+-- a good end with LBKM=1 and FINIT=0: the frame of the mailbox on the wire arrives, with the mailbox's TIME
+abbrev pub endTraffic : Fifo → Sender → Controller → ℕ → Traffic
+endTraffic f Nobody z r = none
+endTraffic f (From m) z r =
+    pick (eqb r 0 && bit 30 (shown z 0x01C) && not (bit 0 (shown z 0x200)))
+    (arrival f (filtered z (frameIn z m .identifier)) (frameIn z m) (shown z (0x184 + 0x10 * number m) / 65536) (bit 3 (shown z 0x000)))
+    none
 
-abbrev pub stepTraffic : Fifo → Core → List ℕ → steps.Step → Traffic
-stepTraffic f c v Reset = empties
-stepTraffic f c v (Read o) = none
-stepTraffic f c v (Write o w) = writeTraffic f (registerAt o) w
-stepTraffic f c v Idle = none
-stepTraffic f c v (BitTimes n) = none
-stepTraffic f c v Activity = none
-stepTraffic f c v Start = none
-stepTraffic f c v (Outcome r) = endTraffic f (c .transmit .queue .transmitting) c v r
-stepTraffic f c v (Receive x) = arrival f (acceptance bankCount (c .filters) v (x .identifier)) x (c .control .timer) (rflm (c .control))
-stepTraffic f c v (ReceiveError k n) = none
+-- t: the timer; v: the mailbox on the wire
+abbrev pub stepTraffic : Fifo → ℕ → Sender → Controller → steps.Step → Traffic
+stepTraffic f t v z Reset = empties
+stepTraffic f t v z (Read o) = none
+stepTraffic f t v z (Write o w) = writeTraffic f o w
+stepTraffic f t v z Idle = none
+stepTraffic f t v z (BitTimes n) = none
+stepTraffic f t v z Activity = none
+stepTraffic f t v z Start = none
+stepTraffic f t v z (Outcome r) = endTraffic f v z r
+stepTraffic f t v z (Receive x) = arrival f (filtered z (x .identifier)) x t (bit 3 (shown z 0x000))
+stepTraffic f t v z (ReceiveError k n) = none
 
-abbrev pub traffic : Fifo → Controller → steps.Step → Traffic
-traffic f z s = pick (isDone z s) (stepTraffic f (z .core) (z .banks) s) none
+abbrev pub traffic : Fifo → ℕ → Sender → Controller → steps.Step → Traffic
+traffic f t v z s = pick (isDone z s) (stepTraffic f t v z s) none
 
 -- a release drops the oldest; a fourth frame replaces the newest, or is dropped with RFLM=1
 abbrev pub withoutOldest : List StoredFrame → List StoredFrame
@@ -105,132 +139,154 @@ waitingNext l empties = []
 waitingNext l releases = withoutOldest l
 waitingNext l (arrives x locked) = pick (ltb (length l) 3) (l ++ x ∷ []) (pick locked l (take 2 l ++ x ∷ []))
 
--- the frames that wait after a list of steps, the oldest first; before it the frames l wait
-unfoldable pub waitingFrom : Fifo → List StoredFrame → Controller → List steps.Step → List StoredFrame
-waitingFrom f l z [] = l
-waitingFrom f l z (s ∷ r) = waitingFrom f (waitingNext l (traffic f z s)) (step z s .controller) r
+-- the frames that wait after a list of steps, the oldest first; before it the frames l wait, the timer is t and b are the requests,
+-- of which the observer of the requests knows the one on the wire
+unfoldable pub waitingFrom : Fifo → List StoredFrame → ℕ → Requests → Controller → List steps.Step → List StoredFrame
+waitingFrom f l t b z [] = l
+waitingFrom f l t b z (s ∷ r) =
+    waitingFrom f (waitingNext l (traffic f t (b .transmitting) z s)) (timerNext t z s) (next b (event (entry s (step z s)))) (step z s .controller) r
 
 -- what the output shows: the oldest frame, zeros where none waits
 abbrev pub oldestFrame : List StoredFrame → StoredFrame
 oldestFrame [] = noFrame
 oldestFrame (x ∷ l) = x
 
--- ---- TEC and the recovery count
+-- ---- the error counters and the recovery count
 
+-- tec: TEC, also above 255; idles: the idle events that have counted; reinitialized: Initialization entered since bus-off
 pub record ErrorCounts : Type 0 where
   pub tec : ℕ
+  pub rec : ℕ
+  pub lec : ℕ
   pub idles : ℕ
+  pub reinitialized : Bool
 
--- the transmit error count after an accepted step
-abbrev pub countedTec : steps.Step → ℕ → ℕ
-countedTec Reset t = 0
-countedTec (Read o) t = t
-countedTec (Write o w) t = t
-countedTec Idle t = t
-countedTec (BitTimes n) t = t
-countedTec Activity t = t
-countedTec Start t = t
-countedTec (Outcome r) t = pick (eqb r 0) (t - 1) (pick (eqb r 7) t (t + 8))
-countedTec (Receive x) t = t
-countedTec (ReceiveError k n) t = t
+abbrev pub noErrors : ErrorCounts
+noErrors = record { tec = 0; rec = 0; lec = 0; idles = 0; reinitialized = false }
 
-abbrev pub isIdle : steps.Step → Bool
-isIdle Reset = false
-isIdle (Read o) = false
-isIdle (Write o w) = false
-isIdle Idle = true
-isIdle (BitTimes n) = false
-isIdle Activity = false
-isIdle Start = false
-isIdle (Outcome r) = false
-isIdle (Receive x) = false
-isIdle (ReceiveError k n) = false
+-- BOFF: TEC above 255
+abbrev pub isBusOff : ErrorCounts → Bool
+isBusOff a = ltb 255 (a .tec)
 
--- a hardware reset, or MCR with bit 15 set
-abbrev pub isResetWrite : Register → ℕ → Bool
-isResetWrite Mcr w = bit 15 w
-isResetWrite Msr w = false
-isResetWrite Tsr w = false
-isResetWrite (Rfr f) w = false
-isResetWrite Ier w = false
-isResetWrite Esr w = false
-isResetWrite Btr w = false
-isResetWrite (Ti m) w = false
-isResetWrite (Tdt m) w = false
-isResetWrite (Tdl m) w = false
-isResetWrite (Tdh m) w = false
-isResetWrite (Ri f) w = false
-isResetWrite (Rdt f) w = false
-isResetWrite (Rdl f) w = false
-isResetWrite (Rdh f) w = false
-isResetWrite Fmr w = false
-isResetWrite Fm1r w = false
-isResetWrite Fs1r w = false
-isResetWrite Ffa1r w = false
-isResetWrite Fa1r w = false
-isResetWrite (R1 b) w = false
-isResetWrite (R2 b) w = false
-isResetWrite Absent w = false
+-- what is seen of a step beside the step itself
+pub record Seen : Type 0 where
+  -- its code is 0
+  pub done : Bool
+  -- before it MCR has ABOM=1, and MSR has INAK=0 and SLAK=0
+  pub abom : Bool
+  pub normal : Bool
+  -- INAK=0 before it, INAK=1 after it
+  pub enters : Bool
 
-abbrev pub isReset : steps.Step → Bool
-isReset Reset = true
-isReset (Read o) = false
-isReset (Write o w) = isResetWrite (registerAt o) w
-isReset Idle = false
-isReset (BitTimes n) = false
-isReset Activity = false
-isReset Start = false
-isReset (Outcome r) = false
-isReset (Receive x) = false
-isReset (ReceiveError k n) = false
-
--- an idle event that counts towards recovery: in bus-off and Normal, with ABOM=1 or Initialization entered since bus-off
-abbrev pub countsIdle : ErrorCounts → Controller → steps.Step → Bool
-countsIdle a z s = isDone z s && isIdle s && ltb 255 (a .tec) && isNormal (z .core .control .mode) && (abom (z .core .control) || z .core .control .reinitialized)
-
-abbrev pub recovered : ErrorCounts → Controller → steps.Step → Bool
-recovered a z s = countsIdle a z s && eqb (a .idles) 127
-
-abbrev pub tecNext : ErrorCounts → Controller → steps.Step → ℕ
-tecNext a z s = pick (isDone z s) (pick (recovered a z s) 0 (countedTec s (a .tec))) (a .tec)
-
-abbrev pub entersInitialization : Controller → steps.Step → Bool
-entersInitialization z s = not (isInitialization (z .core .control .mode)) && isInitialization (step z s .controller .core .control .mode)
-
--- bus-off, entering Initialization and a reset zero the count; so does the 128th idle
-abbrev pub zeroesIdles : ErrorCounts → Controller → steps.Step → Bool
-zeroesIdles a z s = (isDone z s && isReset s) || entersInitialization z s || (not (ltb 255 (a .tec)) && ltb 255 (tecNext a z s))
-
-abbrev pub countsNext : ErrorCounts → Controller → steps.Step → ErrorCounts
-countsNext a z s = record {
-  tec = tecNext a z s;
-  idles = pick (zeroesIdles a z s) 0 (pick (countsIdle a z s) ((a .idles + 1) % 128) (a .idles));
+abbrev pub seen : Controller → steps.Step → Seen
+seen z s = record {
+  done = isDone z s;
+  abom = bit 6 (shown z 0x000);
+  normal = inNormal z;
+  enters = not (bit 0 (shown z 0x004)) && bit 0 (shown (step z s .controller) 0x004);
 }
+
+-- TEC, REC and LEC become t, r and l. Bus-off zeroes the count, and Initialization has not been entered since
+abbrev pub startsBusOff : ErrorCounts → ℕ → Bool
+startsBusOff a t = not (isBusOff a) && ltb 255 t
+
+abbrev pub countersBecome : ErrorCounts → ℕ → ℕ → ℕ → ErrorCounts
+countersBecome a t r l = record {
+  tec = t;
+  rec = r;
+  lec = l;
+  idles = pick (startsBusOff a t) 0 (a .idles);
+  reinitialized = a .reinitialized && not (startsBusOff a t);
+}
+
+-- MCR with bit 15 set: recovery count 0, the rest stays. ESR: LEC becomes 7 if the bits written are 7
+abbrev pub writeCounted : ErrorCounts → ℕ → ℕ → ErrorCounts
+writeCounted a o w = record {
+  tec = a .tec;
+  rec = a .rec;
+  lec = pick (eqb o 0x018 && eqb (bits 4 3 w) 7) 7 (a .lec);
+  idles = pick (eqb o 0x000 && bit 15 w) 0 (a .idles);
+  reinitialized = a .reinitialized;
+}
+
+-- in bus-off and Normal, with ABOM=1 or Initialization entered since bus-off, an idle event counts one; at 128 the count, TEC and REC become 0
+abbrev pub isCounted : ErrorCounts → Seen → Bool
+isCounted a v = isBusOff a && v .normal && (v .abom || a .reinitialized)
+
+abbrev pub isLast : ErrorCounts → Seen → Bool
+isLast a v = isCounted a v && eqb (a .idles + 1) 128
+
+abbrev pub idleCounted : ErrorCounts → Seen → ErrorCounts
+idleCounted a v = record {
+  tec = pick (isLast a v) 0 (a .tec);
+  rec = pick (isLast a v) 0 (a .rec);
+  lec = a .lec;
+  idles = pick (isLast a v) 0 (pick (isCounted a v) (a .idles + 1) (a .idles));
+  reinitialized = a .reinitialized && not (isLast a v);
+}
+
+-- good: TEC one less if not 0, LEC=0; lost (7): neither; error: TEC plus 8, LEC its code
+abbrev pub endCounted : ErrorCounts → ℕ → ErrorCounts
+endCounted a r = countersBecome a (pick (eqb r 0) (a .tec - 1) (pick (eqb r 7) (a .tec) (a .tec + 8))) (a .rec) (pick (eqb r 7) (a .lec) r)
+
+-- an accepted step, before the mode rule
+abbrev pub stepCounted : ErrorCounts → Seen → steps.Step → ErrorCounts
+stepCounted a v Reset = noErrors
+stepCounted a v (Read o) = a
+stepCounted a v (Write o w) = writeCounted a o w
+stepCounted a v Idle = idleCounted a v
+stepCounted a v (BitTimes n) = a
+stepCounted a v Activity = a
+stepCounted a v Start = a
+stepCounted a v (Outcome r) = endCounted a r
+stepCounted a v (Receive x) = countersBecome a (a .tec) (pick (ltb 128 (a .rec)) 120 (a .rec - 1)) 0
+stepCounted a v (ReceiveError k n) = countersBecome a (a .tec) (pick (ltb 255 (a .rec + n)) 255 (a .rec + n)) k
+
+-- entering Initialization zeroes the count, and in bus-off lets the recovery begin
+abbrev pub initializationEntered : Bool → ErrorCounts → ErrorCounts
+initializationEntered b a = record {
+  tec = a .tec;
+  rec = a .rec;
+  lec = a .lec;
+  idles = pick b 0 (a .idles);
+  reinitialized = a .reinitialized || (b && isBusOff a);
+}
+
+abbrev pub countsNext : ErrorCounts → Seen → steps.Step → ErrorCounts
+countsNext a v s = initializationEntered (v .enters) (pick (v .done) (stepCounted a v s) a)
 
 unfoldable pub countsFrom : ErrorCounts → Controller → List steps.Step → ErrorCounts
 countsFrom a z [] = a
-countsFrom a z (s ∷ l) = countsFrom (countsNext a z s) (step z s .controller) l
+countsFrom a z (s ∷ l) = countsFrom (countsNext a (seen z s) s) (step z s .controller) l
 
--- ---- the tie, for every list of steps from hardware reset whose numbers fit their widths (`StepsRange`)
+-- ---- the tie: counted from nothing, for every list of steps from hardware reset whose numbers fit their widths (`StepsRange`)
 
-abbrev pub frames : Fifo → List steps.Step → List StoredFrame
-frames f l = waitingFrom f [] reset l
+abbrev pub frames : Fifo → Controller → List steps.Step → List StoredFrame
+frames f z l = waitingFrom f [] 0 noneYet z l
 
-abbrev pub errorCounts : List steps.Step → ErrorCounts
-errorCounts l = countsFrom (record { tec = 0; idles = 0 }) reset l
+abbrev pub timerAt : Controller → List steps.Step → ℕ
+timerAt z l = timerFrom 0 z l
 
-abbrev pub readAfter : List steps.Step → ℕ → ℕ
-readAfter l o = step (after reset l) (Read o) .word
+abbrev pub errorCounts : Controller → List steps.Step → ErrorCounts
+errorCounts z l = countsFrom noErrors z l
 
-pub record Tied (l : List steps.Step) : Type 0 where
+abbrev pub readAfter : Controller → List steps.Step → ℕ → ℕ
+readAfter z l o = shown (after z l) o
+
+pub record Tied (z : Controller) (l : List steps.Step) : Type 0 where
   -- FMP is the number of frames that wait, and the output is the oldest
-  pub fmp : (f : Fifo) → bits 0 2 (readAfter l (0x00C + 4 * fifoNumber f)) ≡ length (frames f l)
-  pub ri : (f : Fifo) → readAfter l (0x1B0 + 0x10 * fifoNumber f) ≡ oldestFrame (frames f l) .ri
-  pub rdt : (f : Fifo) → readAfter l (0x1B4 + 0x10 * fifoNumber f) ≡ oldestFrame (frames f l) .rdt
-  pub rdl : (f : Fifo) → readAfter l (0x1B8 + 0x10 * fifoNumber f) ≡ oldestFrame (frames f l) .rdl
-  pub rdh : (f : Fifo) → readAfter l (0x1BC + 0x10 * fifoNumber f) ≡ oldestFrame (frames f l) .rdh
-  -- TEC, in ESR its low byte and BOFF, and the recovery count, are what the events say
-  pub tec : after reset l .core .errors .tec ≡ errorCounts l .tec
-  pub tecField : bits 16 8 (readAfter l 0x018) ≡ errorCounts l .tec % 256
-  pub boff : bit 2 (readAfter l 0x018) ≡ ltb 255 (errorCounts l .tec)
-  pub recovery : after reset l .core .control .recovery ≡ errorCounts l .idles
+  pub fmp : (f : Fifo) → bits 0 2 (readAfter z l (0x00C + 4 * fifoNumber f)) ≡ length (frames f z l)
+  pub ri : (f : Fifo) → readAfter z l (0x1B0 + 0x10 * fifoNumber f) ≡ oldestFrame (frames f z l) .ri
+  pub rdt : (f : Fifo) → readAfter z l (0x1B4 + 0x10 * fifoNumber f) ≡ oldestFrame (frames f z l) .rdt
+  pub rdl : (f : Fifo) → readAfter z l (0x1B8 + 0x10 * fifoNumber f) ≡ oldestFrame (frames f z l) .rdl
+  pub rdh : (f : Fifo) → readAfter z l (0x1BC + 0x10 * fifoNumber f) ≡ oldestFrame (frames f z l) .rdh
+  -- in ESR: the low byte of TEC, BOFF, REC and LEC are what the events say
+  pub tecField : bits 16 8 (readAfter z l 0x018) ≡ errorCounts z l .tec % 256
+  pub boff : bit 2 (readAfter z l 0x018) ≡ isBusOff (errorCounts z l)
+  pub rec : bits 24 8 (readAfter z l 0x018) ≡ errorCounts z l .rec
+  pub lec : bits 4 3 (readAfter z l 0x018) ≡ errorCounts z l .lec
+  -- so is what no register shows: TEC above 255, the recovery count, whether Initialization was entered since bus-off, the timer
+  pub tec : after z l .core .errors .tec ≡ errorCounts z l .tec
+  pub recovery : after z l .core .control .recovery ≡ errorCounts z l .idles
+  pub reinitialized : after z l .core .control .reinitialized ≡ errorCounts z l .reinitialized
+  pub timer : after z l .core .control .timer ≡ timerAt z l
