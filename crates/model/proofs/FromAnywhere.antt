@@ -11,6 +11,7 @@ use Rattle.model.specs.Step.{step}
 use Rattle.model.specs.Requests.{Requests, noneYet, next, requestsAfter, after, entries, event, entry}
 use Rattle.model.specs.Fairness.{Fairness, requestsFrom}
 use Rattle.model.specs.Reachable.{InRange, StepRange, StepsRange}
+use Rattle.model.specs.History.{Tied}
 use Rattle.model.specs.Script.{byteAt, number16, number32, bodyLength, decoded, part, reading, recordAt, replayed, begun, afterRecord, advanced, times, replay, stepsBy, stepsFrom, stepsOf}
 use Rattle.model.specs.Scripts.{isEnd, headerShort, tagUnknown, lengthWrong, bodyShort, behind, answeredSteps}
 use Rattle.model.specs.Anywhere.{InTypes, AllInTypes, OfCallers, Bytes, OfScripts, FromState, HardwareReset, BehindReset, opened, OpensWithReset}
@@ -23,6 +24,7 @@ use Rattle.model.proofs.Choices.{pick-cases}
 use Rattle.model.proofs.Computed.{everything}
 use Rattle.model.proofs.Fair.{Good, run-requests, after-append, good-fair, fairness}
 use Rattle.model.proofs.Reached.{after-in-range, reachable}
+use Rattle.model.proofs.Tied.{tied}
 use Rattle.model.proofs.Replays.{steps-on, replays}
 use Rattle.model.proofs.Parts.{reading-behind, steps-rest}
 
@@ -45,7 +47,7 @@ all-range [] h = tt
 all-range (s ∷ l) h = (types-range s (h .0), all-range l (h .1))
 
 pub of-callers : (l : List steps.Step) → OfCallers l
-of-callers l = record { range = all-range l; reachable = λ h. reachable l (all-range l h); fair = fairness l }
+of-callers l = record { range = all-range l; reachable = λ h. reachable l (all-range l h); tied = λ h. tied l (all-range l h); fair = fairness l }
 
 -- ---- scripts
 
@@ -119,6 +121,7 @@ of-scripts s space = record {
   types = script-types s;
   range = answered-range s space;
   reachable = λ h. rw (replays reset s space .folds .controller) (reachable (answeredSteps s space) (answered-range s space h));
+  tied = λ h. tied (answeredSteps s space) (answered-range s space h);
   fair = fairness (answeredSteps s space);
 }
 
@@ -155,6 +158,7 @@ behind-reset z before l = record {
   fair = λ b. subst (λ (y : Controller). Fairness y (requestsFrom z b (before ++ Reset ∷ [])) l) (sym (anew z before []))
       (subst (λ (c : Requests). Fairness reset c l) (sym (none-behind before z b)) (fairness l));
   reachable = λ h. rw (anew z before l) (reachable l h);
+  tied = λ h. subst (λ (y : Controller). Tied y l) (sym (anew z before [])) (tied l h);
 }
 
 -- ---- a script that opens with a reset

@@ -15,9 +15,9 @@ use Rattle.model.specs.Reception.{sentFrame}
 use Rattle.model.specs.Control.{isSleep, isInitialization, isNormal, modeBits, msrWord}
 use Rattle.model.specs.Registers.{bankCount, registerAt, controlRegister, blockRegister, mailboxRegister, filterRegister, bankRegister, bankWord, isAbsent, isFree, readWord}
 use Rattle.model.specs.Step.{step, answered, refusal, wordOf}
-use Rattle.model.specs.Codes.{offsetOf}
+use Rattle.model.specs.Codes.{offsetOf, shown}
 use Rattle.model.specs.Reachable.{InRange}
-use Rattle.model.specs.History.{shown, inNormal, wordsFrom, filtersShown, filtered, frameIn}
+use Rattle.model.specs.History.{inNormal, wordsFrom, filtersShown, filtered, frameIn}
 use Rattle.model.specs.declared.Mailbox.{Mailbox}
 use Rattle.model.specs.declared.Mailbox.the-variants.{M0, M1, M2}
 use Rattle.model.specs.declared.MailboxState.{MailboxState}

@@ -13,9 +13,9 @@ use Rattle.model.specs.Control.{rflm, lbkm, controlReset}
 use Rattle.model.specs.Registers.{registerAt, bankCount, reset, coreReset, written, fifoOf, withErrors}
 use Rattle.model.specs.Step.{step, answered, coreAfter, refusal, applied, settled, storedBy, startedBy, endedBy, loopedBack}
 use Rattle.model.specs.Requests.{next, event, entry, after}
-use Rattle.model.specs.Codes.{fifoNumber}
+use Rattle.model.specs.Codes.{fifoNumber, shown}
 use Rattle.model.specs.Reachable.{InRange, StepsRange}
-use Rattle.model.specs.History.{shown, Traffic, none, empties, releases, arrives, arrival, writeTraffic, endTraffic, stepTraffic, traffic, filtered, waitingNext, waitingFrom, frames}
+use Rattle.model.specs.History.{Traffic, none, empties, releases, arrives, arrival, writeTraffic, endTraffic, stepTraffic, traffic, filtered, waitingNext, waitingFrom, frames}
 use Rattle.model.specs.declared.Mailbox.{Mailbox}
 use Rattle.model.specs.declared.MailboxState.{MailboxState}
 use Rattle.model.specs.declared.Sender.{Sender}

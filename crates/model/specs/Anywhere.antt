@@ -9,6 +9,7 @@ use Rattle.model.specs.Step.{step}
 use Rattle.model.specs.Requests.{Requests, noneYet, after}
 use Rattle.model.specs.Fairness.{Fairness, requestsFrom}
 use Rattle.model.specs.Reachable.{InRange, StepsRange}
+use Rattle.model.specs.History.{Tied}
 use Rattle.model.specs.Script.{replay, stepsOf}
 use Rattle.model.specs.Scripts.{answeredSteps}
 use Rattle.model.specs.declared.Mailbox.the-variants.{M0, M1, M2}
@@ -39,6 +40,7 @@ AllInTypes (s ∷ l) = InTypes s × AllInTypes l
 pub record OfCallers (l : List steps.Step) : Type 0 where
   pub range : AllInTypes l → StepsRange l
   pub reachable : AllInTypes l → InRange (after reset l)
+  pub tied : AllInTypes l → Tied reset l
   pub fair : Fairness reset noneYet l
 
 -- ---- scripts
@@ -52,6 +54,7 @@ pub record OfScripts (s : List ℕ) (space : ℕ) : Type 0 where
   pub types : Bytes s → AllInTypes (stepsOf s)
   pub range : Bytes s → StepsRange (answeredSteps s space)
   pub reachable : Bytes s → InRange (replay reset s space .result .controller)
+  pub tied : Bytes s → Tied reset (answeredSteps s space)
   pub fair : Fairness reset noneYet (answeredSteps s space)
 
 -- ---- any start
@@ -90,6 +93,7 @@ pub record BehindReset (z : Controller) (before l : List steps.Step) : Type 0 wh
   pub anew : atReset z before ≡ reset
   pub fair : (b : Requests) → Fairness (atReset z before) (requestsFrom z b (before ++ Reset ∷ [])) l
   pub reachable : StepsRange l → InRange (after z (before ++ Reset ∷ l))
+  pub tied : StepsRange l → Tied (atReset z before) l
 
 -- a script that opens with the record of a reset
 abbrev pub opened : List ℕ → List ℕ

@@ -14,7 +14,7 @@ use Rattle.model.specs.Reception.{noFrame, storedFrame}
 use Rattle.model.specs.Registers.{bankCount}
 use Rattle.model.specs.Step.{step}
 use Rattle.model.specs.Requests.{Requests, noneYet, next, event, entry, after}
-use Rattle.model.specs.Codes.{fifoNumber}
+use Rattle.model.specs.Codes.{fifoNumber, shown}
 use Rattle.model.specs.declared.Mailbox.{Mailbox}
 use Rattle.model.specs.declared.Sender.{Sender}
 use Rattle.model.specs.declared.Sender.the-variants.{Nobody, From}
@@ -27,10 +27,6 @@ use Rattle.model.specs.declared.Acceptance.the-variants.{Into, Rejected}
 use Rattle.model.specs.declared.Controller.{Controller}
 use Rattle.model.specs.declared.Step as steps
 use Rattle.model.specs.declared.Step.the-variants.{Reset, Read, Write, Idle, BitTimes, Activity, Start, Outcome, Receive, ReceiveError}
-
--- the word that a read gives
-abbrev pub shown : Controller → ℕ → ℕ
-shown z o = step z (Read o) .word
 
 -- the step is accepted
 abbrev pub isDone : Controller → steps.Step → Bool
