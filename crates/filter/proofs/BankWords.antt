@@ -9,6 +9,7 @@ use Rattle.model.specs.Base.{bit}
 use Rattle.model.specs.Banks.{classBy, classOf, rank, own}
 use Rattle.model.specs.Search.{searched}
 use Rattle.model.specs.declared.Filters.{Filters}
+use Rattle.model.specs.declared.Bank.{Bank}
 use Rattle.model.specs.declared.Fifo.{Fifo}
 use Rattle.model.specs.declared.FilterClass.{FilterClass}
 use Rattle.model.specs.declared.FilterClass.the-variants.{List32, Mask32, List16, Mask16}
@@ -53,27 +54,27 @@ ofClass Mask16 g = bitAnd ((2 ^ 32 - 1) - g .scale) ((2 ^ 32 - 1) - g .mode)
 abbrev Is : FilterClass → Bool → Bool → Bool
 Is k s m = eqb (rank (classBy s m)) (rank k)
 
-module _ (g : Filters) (i : ℕ) (h : i < 32) (hs : g .scale < 2 ^ 32) (hm : g .mode < 2 ^ 32) where
-  pub of-class-bit : (k : FilterClass) → bit i (ofClass k g) ≡ eqb (rank (classOf g i)) (rank k)
+module _ (g : Filters) (b : Bank) (h : b .0 < 32) (hs : g .scale < 2 ^ 32) (hm : g .mode < 2 ^ 32) where
+  pub of-class-bit : (k : FilterClass) → bit (b .0) (ofClass k g) ≡ eqb (rank (classOf g b)) (rank k)
   unfolding classOf
   of-class-bit List32 =
-      rw (and-bit i (g .scale) (g .mode))
-      (for-flags (λ (s m : Bool). (s && m) ≡ Is List32 s m) refl refl refl refl (bit i (g .scale)) (bit i (g .mode)))
+      rw (and-bit (b .0) (g .scale) (g .mode))
+      (for-flags (λ (s m : Bool). (s && m) ≡ Is List32 s m) refl refl refl refl (bit (b .0) (g .scale)) (bit (b .0) (g .mode)))
   of-class-bit Mask32 =
-      rw (and-bit i (g .scale) ((2 ^ 32 - 1) - g .mode), not-bit i (g .mode) h hm)
-      (for-flags (λ (s m : Bool). (s && not m) ≡ Is Mask32 s m) refl refl refl refl (bit i (g .scale)) (bit i (g .mode)))
+      rw (and-bit (b .0) (g .scale) ((2 ^ 32 - 1) - g .mode), not-bit (b .0) (g .mode) h hm)
+      (for-flags (λ (s m : Bool). (s && not m) ≡ Is Mask32 s m) refl refl refl refl (bit (b .0) (g .scale)) (bit (b .0) (g .mode)))
   of-class-bit List16 =
-      rw (and-bit i ((2 ^ 32 - 1) - g .scale) (g .mode), not-bit i (g .scale) h hs)
-      (for-flags (λ (s m : Bool). (not s && m) ≡ Is List16 s m) refl refl refl refl (bit i (g .scale)) (bit i (g .mode)))
+      rw (and-bit (b .0) ((2 ^ 32 - 1) - g .scale) (g .mode), not-bit (b .0) (g .scale) h hs)
+      (for-flags (λ (s m : Bool). (not s && m) ≡ Is List16 s m) refl refl refl refl (bit (b .0) (g .scale)) (bit (b .0) (g .mode)))
   of-class-bit Mask16 =
-      rw (and-bit i ((2 ^ 32 - 1) - g .scale) ((2 ^ 32 - 1) - g .mode), not-bit i (g .scale) h hs, not-bit i (g .mode) h hm)
-      (for-flags (λ (s m : Bool). (not s && not m) ≡ Is Mask16 s m) refl refl refl refl (bit i (g .scale)) (bit i (g .mode)))
+      rw (and-bit (b .0) ((2 ^ 32 - 1) - g .scale) ((2 ^ 32 - 1) - g .mode), not-bit (b .0) (g .scale) h hs, not-bit (b .0) (g .mode) h hm)
+      (for-flags (λ (s m : Bool). (not s && not m) ≡ Is Mask16 s m) refl refl refl refl (bit (b .0) (g .scale)) (bit (b .0) (g .mode)))
 
 -- ---- the banks that a search looks at
 
 -- x is the word of the banks of the class
-pub searched-bit : (g : Filters) (k : FilterClass) (f : Fifo) (x i : ℕ) → i < 32 → g .assignment < 2 ^ 32
-    → bit i x ≡ eqb (rank (classOf g i)) (rank k) → bit i (bitAnd (g .activation) (bitAnd (own f g) x)) ≡ searched g k f i
+pub searched-bit : (g : Filters) (k : FilterClass) (f : Fifo) (x : ℕ) (b : Bank) → b .0 < 32 → g .assignment < 2 ^ 32
+    → bit (b .0) x ≡ eqb (rank (classOf g b)) (rank k) → bit (b .0) (bitAnd (g .activation) (bitAnd (own f g) x)) ≡ searched g k f b
 unfolding searched
-searched-bit g k f x i h ha e =
-    rw (and-bit i (g .activation) (bitAnd (own f g) x), and-bit i (own f g) x, own-digit f g i h ha, e)
+searched-bit g k f x b h ha e =
+    rw (and-bit (b .0) (g .activation) (bitAnd (own f g) x), and-bit (b .0) (own f g) x, own-digit f g b h ha, e)

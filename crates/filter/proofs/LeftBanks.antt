@@ -5,28 +5,25 @@ use mathlib.Core.List.{List}
 use mathlib.Core.Logic.{_⊎_, inl, inr}
 use Prim.Native.Nat.{ℕ, zero, suc, _+_, _-_, _*_, _/_, _%_, _^_, _≤_, _<_}
 use native.Mathlib.Nat.{div-eq-of-lt, div-one, one-mul, pow-suc}
-use native.Mathlib.Numerals.{one-add}
 use native.Mathlib.Omega.{arith}
 use lib.Dec.{eqb}
 use lib.Bits.{bitAnd, and-le-l}
 use lib.Count.{trailingZeros, under}
-use lib.Pow.{pow-lt, pow-add, pow-pos, shl-shr, shr-shr}
+use lib.Pow.{pow-lt, pow-add, pow-pos, shl-shr}
 use Rattle.model.specs.Base.{pick, bit}
-use Rattle.model.specs.Banks.{width}
+use Rattle.model.specs.Banks.{bank, width}
 use Rattle.model.specs.Search.{first, searched, tried, hitAt, hitIn}
 use Rattle.model.specs.declared.Filters.{Filters}
+use Rattle.model.specs.declared.Bank.{Bank}
 use Rattle.model.specs.declared.Fifo.{Fifo}
 use Rattle.model.specs.declared.FilterClass.{FilterClass}
 use Rattle.model.specs.declared.Hit.{Hit}
 use Rattle.model.specs.declared.Hit.the-variants.{Nothing}
-use Rattle.model.proofs.Digits.{one-shifted}
+use Rattle.model.proofs.Digits.{digit-of-half, one-shifted}
 use Rattle.model.proofs.FirstHit.{lower}
 use Rattle.filter.proofs.BankWords.{and-bit, not-bit}
 
 -- ---- the lowest digit that is 1
-
-down : (n j : ℕ) → n / 2 ^ suc j % 2 ≡ n / 2 / 2 ^ j % 2
-down n j = ap (λ (e : ℕ). n / 2 ^ e % 2) (sym (one-add j)) ∙ ap (λ (x : ℕ). x % 2) (sym (shr-shr n 1 j))
 
 -- the digits below it are 0
 trailing-low : (k n j : ℕ) → j < trailingZeros k n → n / 2 ^ j % 2 ≡ 0
@@ -37,7 +34,7 @@ trailing-low (suc k) n j h = go (trailing-low k (n / 2)) (n % 2) refl j h
     go : ((j : ℕ) → j < trailingZeros k (n / 2) → n / 2 / 2 ^ j % 2 ≡ 0) → (d : ℕ) → n % 2 ≡ d → (j : ℕ) → j < under d (trailingZeros k (n / 2)) → n / 2 ^ j % 2 ≡ 0
     go ih (suc d) e j h = absurd (omega arith)
     go ih zero e zero h = rw div-one e
-    go ih zero e (suc j) h = down n j ∙ ih j (omega arith)
+    go ih zero e (suc j) h = digit-of-half n j ∙ ih j (omega arith)
 
 -- it is 1, if there is one
 trailing-at : (k n : ℕ) → trailingZeros k n < k → n / 2 ^ trailingZeros k n % 2 ≡ 1
@@ -46,7 +43,7 @@ trailing-at zero n h = absurd (omega arith)
 trailing-at (suc k) n h = go (trailing-at k (n / 2)) (n % 2) refl h
   where
     go : (trailingZeros k (n / 2) < k → n / 2 / 2 ^ trailingZeros k (n / 2) % 2 ≡ 1) → (d : ℕ) → n % 2 ≡ d → under d (trailingZeros k (n / 2)) < suc k → n / 2 ^ under d (trailingZeros k (n / 2)) % 2 ≡ 1
-    go ih zero e h = down n (trailingZeros k (n / 2)) ∙ ih (omega arith)
+    go ih zero e h = digit-of-half n (trailingZeros k (n / 2)) ∙ ih (omega arith)
     go ih (suc d) e h = rw div-one (omega arith)
 
 -- the lowest bank of a word has its bit set
@@ -113,40 +110,40 @@ nothing-below p (suc n) h = rw (nothing-below p n (λ j l. h j (omega arith)), h
 
 -- a bank that is left is one of those that are searched; any other has no hit
 pub record Left (n : ℕ) (g : Filters) (v : List ℕ) (w : ℕ) (k : FilterClass) (f : Fifo) (x : ℕ) : Type 0 where
-  pub within : (i : ℕ) → i < 32 → bit i x ≡ true → searched g k f i ≡ true
-  pub passed : (i : ℕ) → i < 32 → bit i x ≡ false → hitIn n g v w k f i ≡ Nothing
+  pub within : (i : ℕ) → i < 32 → bit i x ≡ true → searched g k f (bank i) ≡ true
+  pub passed : (i : ℕ) → i < 32 → bit i x ≡ false → hitIn n g v w k f (bank i) ≡ Nothing
 
 module _ (n : ℕ) (g : Filters) (v : List ℕ) (w : ℕ) (k : FilterClass) (f : Fifo) where
-  unsearched : (i : ℕ) → searched g k f i ≡ false → hitIn n g v w k f i ≡ Nothing
+  unsearched : (b : Bank) → searched g k f b ≡ false → hitIn n g v w k f b ≡ Nothing
   unfolding hitIn tried first
-  unsearched i e = rw e
+  unsearched b e = rw e
 
   -- at first all that are searched are left
-  pub all-left : (x : ℕ) → ((i : ℕ) → i < 32 → bit i x ≡ searched g k f i) → Left n g v w k f x
-  all-left x e = record { within = λ i h b. sym (e i h) ∙ b; passed = λ i h b. unsearched i (sym (e i h) ∙ b) }
+  pub all-left : (x : ℕ) → ((b : Bank) → b .0 < 32 → bit (b .0) x ≡ searched g k f b) → Left n g v w k f x
+  all-left x e = record { within = λ i h b. sym (e (bank i) h) ∙ b; passed = λ i h b. unsearched (bank i) (sym (e (bank i) h) ∙ b) }
 
   module _ (x : ℕ) (s : Left n g v w k f x) where
     -- no bank up to the lowest that is left has a hit
-    pub none-before : (i : ℕ) → i ≤ trailingZeros 32 x → i ≤ 32 → first (hitIn n g v w k f) i ≡ Nothing
+    pub none-before : (i : ℕ) → i ≤ trailingZeros 32 x → i ≤ 32 → first (λ (j : ℕ). hitIn n g v w k f (bank j)) i ≡ Nothing
     none-before i l h = nothing-below _ i (λ j b. s .passed j (omega arith) (below-lowest x j (omega arith)))
 
     -- all filters of the lowest are tried
-    pub lowest-tried : trailingZeros 32 x < 32 → tried g k f (trailingZeros 32 x) ≡ width k
+    pub lowest-tried : trailingZeros 32 x < 32 → tried g k f (bank (trailingZeros 32 x)) ≡ width k
     unfolding tried
     lowest-tried h = rw (s .within (trailingZeros 32 x) h (lowest-set x h))
 
     -- a bank without a hit is cleared
-    pub fewer-left : (i : ℕ) → i < 32 → hitIn n g v w k f i ≡ Nothing → Left n g v w k f (without x i)
+    pub fewer-left : (i : ℕ) → i < 32 → hitIn n g v w k f (bank i) ≡ Nothing → Left n g v w k f (without x i)
     fewer-left i h e = record { within = λ j l b. inside j l b (lower i j) (lower j i); passed = λ j l b. gone j l b (lower i j) (lower j i) }
       where
-        inside : (j : ℕ) → j < 32 → bit j (without x i) ≡ true → (i < j) ⊎ (j ≤ i) → (j < i) ⊎ (i ≤ j) → searched g k f j ≡ true
+        inside : (j : ℕ) → j < 32 → bit j (without x i) ≡ true → (i < j) ⊎ (j ≤ i) → (j < i) ⊎ (i ≤ j) → searched g k f (bank j) ≡ true
         inside j l b (inl a) c = s .within j l (sym (without-other x i h j l (power-above i j a)) ∙ b)
         inside j l b (inr a) (inl c) = s .within j l (sym (without-other x i h j l (power-below i j c)) ∙ b)
         inside j l b (inr a) (inr c) =
             let same : j ≡ i = omega arith in
             let own : bit j (without x i) ≡ false = rw same (without-own x i h) in let z : _≡_ {A = ℕ} 0 1 = cc in absurd (omega arith)
 
-        gone : (j : ℕ) → j < 32 → bit j (without x i) ≡ false → (i < j) ⊎ (j ≤ i) → (j < i) ⊎ (i ≤ j) → hitIn n g v w k f j ≡ Nothing
+        gone : (j : ℕ) → j < 32 → bit j (without x i) ≡ false → (i < j) ⊎ (j ≤ i) → (j < i) ⊎ (i ≤ j) → hitIn n g v w k f (bank j) ≡ Nothing
         gone j l b (inl a) c = s .passed j l (sym (without-other x i h j l (power-above i j a)) ∙ b)
         gone j l b (inr a) (inl c) = s .passed j l (sym (without-other x i h j l (power-below i j c)) ∙ b)
         gone j l b (inr a) (inr c) = let same : j ≡ i = omega arith in rw same e

@@ -6,9 +6,8 @@ ghost use Prim.Native.Nat.{ℕ, _+_, _<_, _≤_};
 ghost use lib.Dec.{eqb};
 ghost use Rattle.model.specs.Base as base;
 ghost use Rattle.model.specs.Banks as banks;
-ghost use Rattle.model.specs.Banks.{shortWord};
+ghost use Rattle.model.specs.Banks.{firstWord, secondWord, shortWord};
 ghost use Rattle.model.specs.Search as search;
-ghost use Rattle.model.proofs.Digits as digits;
 use bits::pick_u32;
 use model::Acceptance;
 use model::Bank;
@@ -17,6 +16,24 @@ use model::FilterClass;
 use model::FilterNumber;
 use model::Filters;
 use model::Hit;
+
+// ---- the words of a bank
+
+fn first_word(banks: &[u32; 28], b: Bank) -> u32
+    requires { ⌜ b .0 < 14 ⌝ }
+    ensures { λ r. ⌜ r ≡ firstWord (now (banks .entry)) b ⌝ }
+{
+    let place = 2 * b.0;
+    banks[place as usize]
+}
+
+fn second_word(banks: &[u32; 28], b: Bank) -> u32
+    requires { ⌜ b .0 < 14 ⌝ }
+    ensures { λ r. ⌜ r ≡ secondWord (now (banks .entry)) b ⌝ }
+{
+    let place = 2 * b.0 + 1;
+    banks[place as usize]
+}
 
 // ---- the filters of a bank
 
@@ -75,12 +92,6 @@ fn takes(k: FilterClass, a: u32, b: u32, j: u32, w: u32, short: u32) -> bool
     }
 }
 
-pub fn matches(k: FilterClass, a: u32, b: u32, j: u32, w: u32) -> bool
-    ensures { λ r. ⌜ r ≡ banks.matches k a b j w ⌝ }
-{
-    takes(k, a, b, j, w, short_word(w))
-}
-
 // ---- their numbers in a FIFO
 
 // The word with a 1 for each bank of the FIFO.
@@ -93,10 +104,10 @@ fn own(f: Fifo, g: Filters) -> u32
     }
 }
 
-// How many of the i lowest bits are 1.
+// How many of the i lowest bits are 1, and so how many of the i lowest banks.
 fn ones_below(i: u32, w: u32) -> u32
     requires { ⌜ i < 32 ⌝ }
-    ensures { λ r. ⌜ (r ≡ digits.onesBelow i w) × (r ≤ 32) ⌝ }
+    ensures { λ r. ⌜ (r ≡ banks.onesBelow i w) × (r ≤ 32) ⌝ }
 {
     u32::count_ones(w & ((1 << i) - 1))
 }
@@ -129,7 +140,7 @@ pub fn first_number(g: Filters, f: Fifo, b: Bank) -> FilterNumber
 // The number of filter j of a bank.
 fn number(n: u32, g: Filters, f: Fifo, b: Bank, j: u32) -> FilterNumber
     requires { ⌜ (n ≤ 28) × (j < 4) ⌝ }
-    ensures { λ r. ⌜ r ≡ banks.filterNumber (banks.firstNumber n g f b .0 + j) ⌝ }
+    ensures { λ r. ⌜ r ≡ banks.numberOf n g f b j ⌝ }
 {
     let first = first_number_of(n, g, f, b);
     let wide = first.0 as u32;
@@ -142,7 +153,7 @@ fn number(n: u32, g: Filters, f: Fifo, b: Bank, j: u32) -> FilterNumber
 
 // The word with a 1 for each bank of the class.
 fn of_class(g: Filters, k: FilterClass) -> u32
-    ensures { λ r. ⌜ ((i : ℕ) → i < 32 → base.bit i r ≡ eqb (banks.rank (banks.classOf g i)) (banks.rank k)) ⌝ }
+    ensures { λ r. ⌜ ((b : Bank) → b .0 < 32 → base.bit (b .0) r ≡ eqb (banks.rank (banks.classOf g b)) (banks.rank k)) ⌝ }
 {
     match k {
         FilterClass::List32 => g.scale & g.mode,
@@ -154,7 +165,7 @@ fn of_class(g: Filters, k: FilterClass) -> u32
 
 // The word with a 1 for each bank that is searched.
 fn searched(g: Filters, k: FilterClass, f: Fifo) -> u32
-    ensures { λ r. ⌜ ((i : ℕ) → i < 32 → base.bit i r ≡ search.searched g k f i) ⌝ }
+    ensures { λ r. ⌜ ((b : Bank) → b .0 < 32 → base.bit (b .0) r ≡ search.searched g k f b) ⌝ }
 {
     g.activation & (own(f, g) & of_class(g, k))
 }
@@ -173,7 +184,7 @@ fn first_hit(
 ) -> Hit
     requires { ⌜ n ≤ 14 ⌝ }
     requires { ⌜ short ≡ shortWord w ⌝ }
-    requires { ⌜ ((i : ℕ) → i < 32 → base.bit i part ≡ search.searched g k f i) ⌝ }
+    requires { ⌜ ((b : Bank) → b .0 < 32 → base.bit (b .0) part ≡ search.searched g k f b) ⌝ }
     ensures { λ r. ⌜ r ≡ search.firstHit n g (now (banks .entry)) w k f ⌝ }
 {
     let m = width(k);
@@ -183,12 +194,13 @@ fn first_hit(
         if n <= i {
             break Hit::Nothing;
         }
-        let a = banks[(2 * i) as usize];
-        let b = banks[(2 * i + 1) as usize];
+        let bank = Bank(i);
+        let a = first_word(banks, bank);
+        let b = second_word(banks, bank);
         let mut j: u32 = 0;
         while j < m {
             if takes(k, a, b, j, w, short) {
-                break 'search Hit::Filter(number(n, g, f, Bank(i), j));
+                break 'search Hit::Filter(number(n, g, f, bank, j));
             }
             j += 1;
         }

@@ -6,14 +6,35 @@ use native.Mathlib.Numerals.{one-add}
 use native.Mathlib.Omega.{arith}
 use lib.Bits.{bitAnd, bitXor, differ, and-step, xor-step, and-shr, xor-shr, and-mask, and-le-l, xor-add-and}
 use lib.Count.{ones, ones-cat, ones-le}
-use lib.Pow.{pow-pos, shl-exact, mod-pow-add, ones-split, high, ones-lt}
+use lib.Pow.{pow-pos, shl-exact, shr-shr, mod-pow-add, ones-split, high, ones-lt}
 use Rattle.model.specs.Base.{sum}
+use Rattle.model.specs.Banks.{onesBelow}
 
 -- what is shown of 0 and of 1 holds of every digit
 pub for-digit : (P : ℕ → Type 0) → P 0 → P 1 → (x : ℕ) → x < 2 → P x
 for-digit P a b zero h = a
 for-digit P a b (suc zero) h = b
 for-digit P a b (suc (suc x)) h = absurd (omega arith)
+
+-- a higher digit is one of the half
+pub digit-of-half : (n i : ℕ) → n / 2 ^ suc i % 2 ≡ n / 2 / 2 ^ i % 2
+digit-of-half n i = ap (λ (e : ℕ). n / 2 ^ e % 2) (sym (one-add i)) ∙ ap (λ (x : ℕ). x % 2) (sym (shr-shr n 1 i))
+
+same-below : (k a b : ℕ) → a < 2 ^ k → b < 2 ^ k → ((i : ℕ) → a / 2 ^ i % 2 ≡ b / 2 ^ i % 2) → a ≡ b
+same-below zero a b la lb h = omega arith
+same-below (suc k) a b la lb h =
+    let half : a / 2 ≡ b / 2 = same-below k (a / 2) (b / 2) (omega (arith, pow-suc 2 k)) (omega (arith, pow-suc 2 k)) (λ i. sym (digit-of-half a i) ∙ h (suc i) ∙ digit-of-half b i) in
+    let low : a % 2 ≡ b % 2 = omega (arith, h 0) in
+    omega arith
+
+below-power : (n : ℕ) → n < 2 ^ n
+below-power zero = omega arith
+below-power (suc n) = omega (arith, below-power n, pow-suc 2 n)
+
+-- numbers with the same digits are the same
+pub same-digits : (a b : ℕ) → ((i : ℕ) → a / 2 ^ i % 2 ≡ b / 2 ^ i % 2) → a ≡ b
+same-digits a b h =
+    same-below (a + b) a b (lt-of-le-of-lt (omega arith) (below-power (a + b))) (lt-of-le-of-lt (omega arith) (below-power (a + b))) h
 
 -- ---- `a & b` and `!a`
 
@@ -41,10 +62,6 @@ not-digit i a hi h =
     ∙ rw other (omega arith)
 
 -- ---- counts of ones
-
--- how many of the i lowest digits of w are 1
-abbrev pub onesBelow : ℕ → ℕ → ℕ
-onesBelow i w = ones (bitAnd w (2 ^ i - 1))
 
 ones-of-digit : (x : ℕ) → x < 2 → ones x ≡ x
 unfolding ones

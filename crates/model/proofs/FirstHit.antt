@@ -3,19 +3,20 @@ use mathlib.Core.Path.{_≡_, refl}
 use mathlib.Core.Bool.{Bool, true, false}
 use mathlib.Core.List.{List, [], _∷_}
 use mathlib.Core.Logic.{_⊎_, inl, inr}
-use Prim.Native.Nat.{ℕ, zero, suc, _+_, _*_, _≤_, _<_}
+use Prim.Native.Nat.{ℕ, zero, suc, _+_, _≤_, _<_}
 use native.Mathlib.Nat.{le-refl}
 use native.Mathlib.Numerals.{add-one}
 use native.Mathlib.Decide.{le-ind}
 use native.Mathlib.Omega.{arith}
 use borrow.Author.Tests.{ltb-true, ltb-false}
 use lib.Dec.{ltb}
-use lib.ListN.{length, getD}
+use lib.ListN.{length}
 use Rattle.model.specs.Base.{pick}
-use Rattle.model.specs.Banks.{bank, filterNumber, width, filters, wordFor, takenAt, matches, firstNumber}
+use Rattle.model.specs.Banks.{firstWord, secondWord, width, filters, wordFor, takenAt, matches, numberOf}
 use Rattle.model.specs.Banks as banks
 use Rattle.model.specs.Search.{first, searched, tried, hitAt}
 use Rattle.model.specs.declared.Filters.{Filters}
+use Rattle.model.specs.declared.Bank.{Bank}
 use Rattle.model.specs.declared.FilterClass.{FilterClass}
 use Rattle.model.specs.declared.FilterClass.the-variants.{List32, Mask32, List16, Mask16}
 use Rattle.model.specs.declared.Fifo.{Fifo}
@@ -106,11 +107,11 @@ width-le List16 = omega arith
 width-le Mask16 = omega arith
 
 -- so no more are looked at
-pub tried-le : (g : Filters) (k : FilterClass) (f : Fifo) (i : ℕ) → tried g k f i ≤ 4
+pub tried-le : (g : Filters) (k : FilterClass) (f : Fifo) (b : Bank) → tried g k f b ≤ 4
 unfolding tried
-tried-le g k f i = go (searched g k f i)
+tried-le g k f b = go (searched g k f b)
   where
-    go : (b : Bool) → pick b (width k) 0 ≤ 4
+    go : (s : Bool) → pick s (width k) 0 ≤ 4
     go false = omega arith
     go true = width-le k
 
@@ -134,14 +135,13 @@ filter-within k a b j w e = elim (lower j (width k)) [
   | inr h ↦ let none = no-filter k a b j w h in let z : _≡_ {A = ℕ} 0 1 = cc in absurd (omega arith)
 ]
 
-module _ (n : ℕ) (g : Filters) (v : List ℕ) (w : ℕ) (k : FilterClass) (f : Fifo) (i j : ℕ) where
+module _ (n : ℕ) (g : Filters) (v : List ℕ) (w : ℕ) (k : FilterClass) (f : Fifo) (b : Bank) (j : ℕ) where
   -- a filter that does not take the word is no hit
-  pub no-hit : matches k (getD v (2 * i) 0) (getD v (2 * i + 1) 0) j w ≡ false → hitAt n g v w k f i j ≡ Nothing
+  pub no-hit : matches k (firstWord v b) (secondWord v b) j w ≡ false → hitAt n g v w k f b j ≡ Nothing
   unfolding hitAt
   no-hit e = rw e
 
   -- one that takes it is a hit with its number
-  pub hit : matches k (getD v (2 * i) 0) (getD v (2 * i + 1) 0) j w ≡ true
-      → hitAt n g v w k f i j ≡ Filter (filterNumber (firstNumber n g f (bank i) .0 + j))
+  pub hit : matches k (firstWord v b) (secondWord v b) j w ≡ true → hitAt n g v w k f b j ≡ Filter (numberOf n g f b j)
   unfolding hitAt
   hit e = rw e

@@ -18,6 +18,8 @@ pub mod LowestNumber
 pub mod Preference
 pub mod Acceptances
 pub mod FilterNumbers
+pub mod FilterWords
+pub mod BankRegisters
 pub mod ControlRanges
 pub mod CoreRanges
 pub mod ErrorCounting

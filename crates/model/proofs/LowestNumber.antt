@@ -2,35 +2,24 @@
 use mathlib.Core.Path.{_≡_, refl, sym, ap, _∙_}
 use mathlib.Core.Bool.{Bool, true, false, _&&_}
 use mathlib.Core.List.{List}
-use Prim.Native.Nat.{ℕ, zero, suc, _+_, _*_, _≤_, _<_}
+use Prim.Native.Nat.{ℕ, zero, suc, _+_, _≤_, _<_}
 use native.Mathlib.Nat.{le-refl}
 use native.Mathlib.Decide.{le-ind}
 use native.Mathlib.Omega.{arith}
 use borrow.Author.Tests.{lt-ltb, eq-eqb, eqb-true}
 use lib.Dec.{eqb}
-use lib.ListN.{getD}
-use Rattle.model.specs.Base.{pick, bit, sum}
-use Rattle.model.specs.Banks.{bank, filterNumber, classOf, rank, width, matches, belongs, share, firstNumber}
+use Rattle.model.specs.Base.{pick, sum}
+use Rattle.model.specs.Banks.{bank, firstWord, secondWord, isActive, classOf, rank, width, matches, belongs, share, firstNumber, numberOf}
 use Rattle.model.specs.Search.{searched, tried, hitAt, hitIn, firstHit}
+use Rattle.model.specs.Filtering.{ActiveMatch}
 use Rattle.model.specs.declared.Filters.{Filters}
+use Rattle.model.specs.declared.Bank.{Bank}
 use Rattle.model.specs.declared.FilterClass.{FilterClass}
 use Rattle.model.specs.declared.FilterClass.the-variants.{List32, Mask32, List16, Mask16}
 use Rattle.model.specs.declared.Fifo.{Fifo}
 use Rattle.model.specs.declared.FilterNumber.{FilterNumber}
 use Rattle.model.specs.declared.Hit.the-variants.{Filter, Nothing}
 use Rattle.model.proofs.FirstHit.{FirstOfRow, nowhere, at, first-of-row, Ascending, first-lowest, nothing-no-filter, filter-within, hit}
-
--- bank i, one of n, is active, in FIFO f and of class k, and its filter j takes a frame with the identifier word w
-pub record ActiveMatch (n : ℕ) (g : Filters) (v : List ℕ) (w : ℕ) (k : FilterClass) (f : Fifo) (i j : ℕ) : Type 0 where
-  pub within : i < n
-  pub active : bit i (g .activation) ≡ true
-  pub assigned : belongs f g i ≡ true
-  pub class : classOf g i ≡ k
-  pub takes : matches k (getD v (2 * i) 0) (getD v (2 * i + 1) 0) j w ≡ true
-
--- the number of filter j of bank i in its FIFO
-abbrev pub numberOf : ℕ → Filters → Fifo → ℕ → ℕ → FilterNumber
-numberOf n g f i j = filterNumber (firstNumber n g f (bank i) .0 + j)
 
 -- ---- the banks that are searched
 
@@ -55,32 +44,32 @@ both-true true true e = (refl, refl)
 both-true true false e = let z : _≡_ {A = ℕ} 0 1 = cc in absurd (omega arith)
 both-true false b e = let z : _≡_ {A = ℕ} 0 1 = cc in absurd (omega arith)
 
-module _ (g : Filters) (k : FilterClass) (f : Fifo) (i : ℕ) where
-  is-searched : bit i (g .activation) ≡ true → belongs f g i ≡ true → classOf g i ≡ k → searched g k f i ≡ true
+module _ (g : Filters) (k : FilterClass) (f : Fifo) (b : Bank) where
+  is-searched : isActive g b ≡ true → belongs f g b ≡ true → classOf g b ≡ k → searched g k f b ≡ true
   unfolding searched
-  is-searched a b c = rw (a, b, c, eq-eqb (rank k) (rank k) refl)
+  is-searched a o c = rw (a, o, c, eq-eqb (rank k) (rank k) refl)
 
-  searched-is : searched g k f i ≡ true → (bit i (g .activation) ≡ true) × (belongs f g i ≡ true) × (classOf g i ≡ k)
+  searched-is : searched g k f b ≡ true → (isActive g b ≡ true) × (belongs f g b ≡ true) × (classOf g b ≡ k)
   unfolding searched
   searched-is e =
-      let s = both-true (bit i (g .activation)) (belongs f g i && eqb (rank (classOf g i)) (rank k)) e in
-      let t = both-true (belongs f g i) (eqb (rank (classOf g i)) (rank k)) (s .1) in
-      (s .0, t .0, rank-injective (classOf g i) k (eqb-true (rank (classOf g i)) (rank k) (t .1)))
+      let s = both-true (isActive g b) (belongs f g b && eqb (rank (classOf g b)) (rank k)) e in
+      let t = both-true (belongs f g b) (eqb (rank (classOf g b)) (rank k)) (s .1) in
+      (s .0, t .0, rank-injective (classOf g b) k (eqb-true (rank (classOf g b)) (rank k) (t .1)))
 
-  tried-searched : (j : ℕ) → j < tried g k f i → searched g k f i ≡ true
+  tried-searched : (j : ℕ) → j < tried g k f b → searched g k f b ≡ true
   unfolding tried
-  tried-searched j = go (searched g k f i) refl
+  tried-searched j = go (searched g k f b) refl
     where
-      go : (b : Bool) → searched g k f i ≡ b → j < pick b (width k) 0 → searched g k f i ≡ true
+      go : (s : Bool) → searched g k f b ≡ s → j < pick s (width k) 0 → searched g k f b ≡ true
       go true e h = e
       go false e h = absurd (omega arith)
 
   -- a bank that is searched has as many filters as it takes numbers
-  pub tried-share : tried g k f i ≤ share f g i
+  pub tried-share : tried g k f b ≤ share f g b
   unfolding tried
-  tried-share = go (searched g k f i) refl
+  tried-share = go (searched g k f b) refl
     where
-      go : (b : Bool) → searched g k f i ≡ b → pick b (width k) 0 ≤ share f g i
+      go : (s : Bool) → searched g k f b ≡ s → pick s (width k) 0 ≤ share f g b
       go false e = omega arith
       go true e = let s = searched-is e in rw (s .1, s .2) (le-refl (width k))
 
@@ -92,60 +81,61 @@ unfolding sum
 sum-up s i j h = le-ind (λ (m : ℕ). sum s i + s i ≤ sum s m) (le-refl _) (λ m l e. omega arith) j h
 
 module _ (n : ℕ) (g : Filters) (v : List ℕ) (w : ℕ) (k : FilterClass) (f : Fifo) where
-  numbers-up : (i j : ℕ) → i < j → j < n → firstNumber n g f (bank i) .0 + tried g k f i ≤ firstNumber n g f (bank j) .0
+  numbers-up : (a b : Bank) → a .0 < b .0 → b .0 < n → firstNumber n g f a .0 + tried g k f a ≤ firstNumber n g f b .0
   unfolding firstNumber
-  numbers-up i j h l =
-      rw (lt-ltb i n (omega arith), lt-ltb j n l) (omega (arith, sum-up (share f g) i j h, tried-share g k f i))
+  numbers-up a b h l =
+      rw (lt-ltb (a .0) n (omega arith), lt-ltb (b .0) n l)
+      (omega (arith, sum-up (λ (i : ℕ). share f g (bank i)) (a .0) (b .0) h, tried-share g k f a))
 
-  hit-is : (i j : ℕ) (x : FilterNumber) → hitAt n g v w k f i j ≡ Filter x
-      → (matches k (getD v (2 * i) 0) (getD v (2 * i + 1) 0) j w ≡ true) × (x ≡ numberOf n g f i j)
+  hit-is : (b : Bank) (j : ℕ) (x : FilterNumber) → hitAt n g v w k f b j ≡ Filter x
+      → (matches k (firstWord v b) (secondWord v b) j w ≡ true) × (x ≡ numberOf n g f b j)
   unfolding hitAt
-  hit-is i j x = go (matches k (getD v (2 * i) 0) (getD v (2 * i + 1) 0) j w)
+  hit-is b j x = go (matches k (firstWord v b) (secondWord v b) j w)
     where
-      go : (b : Bool) → pick b (Filter (numberOf n g f i j)) Nothing ≡ Filter x → (b ≡ true) × (x ≡ numberOf n g f i j)
+      go : (t : Bool) → pick t (Filter (numberOf n g f b j)) Nothing ≡ Filter x → (t ≡ true) × (x ≡ numberOf n g f b j)
       go true e = (refl, cc)
       go false e = nothing-no-filter refl e
 
-  bank-hit : (i : ℕ) (x : FilterNumber) → hitIn n g v w k f i ≡ Filter x
-      → (j : ℕ) × (j < tried g k f i) × (hitAt n g v w k f i j ≡ Filter x)
+  bank-hit : (b : Bank) (x : FilterNumber) → hitIn n g v w k f b ≡ Filter x
+      → (j : ℕ) × (j < tried g k f b) × (hitAt n g v w k f b j ≡ Filter x)
   unfolding hitIn
-  bank-hit i x e = go (first-of-row (hitAt n g v w k f i) (tried g k f i))
+  bank-hit b x e = go (first-of-row (hitAt n g v w k f b) (tried g k f b))
     where
-      go : FirstOfRow (hitAt n g v w k f i) (tried g k f i) → (j : ℕ) × (j < tried g k f i) × (hitAt n g v w k f i j ≡ Filter x)
+      go : FirstOfRow (hitAt n g v w k f b) (tried g k f b) → (j : ℕ) × (j < tried g k f b) × (hitAt n g v w k f b j ≡ Filter x)
       go (nowhere s q) = nothing-no-filter s e
       go (at j y l d s q) = (j, l, cc)
 
-  number-in-bank : (i : ℕ) (x : FilterNumber) → hitIn n g v w k f i ≡ Filter x
-      → (firstNumber n g f (bank i) .0 ≤ x .0) × (x .0 < firstNumber n g f (bank i) .0 + tried g k f i)
-  number-in-bank i x e =
-      let b = bank-hit i x e in let is = hit-is i (b .0) x (b .2) in rw (is .1) (omega arith, omega arith)
+  number-in-bank : (b : Bank) (x : FilterNumber) → hitIn n g v w k f b ≡ Filter x
+      → (firstNumber n g f b .0 ≤ x .0) × (x .0 < firstNumber n g f b .0 + tried g k f b)
+  number-in-bank b x e =
+      let h = bank-hit b x e in let is = hit-is b (h .0) x (h .2) in rw (is .1) (omega arith, omega arith)
 
-  banks-ascend : Ascending (hitIn n g v w k f) n
-  banks-ascend i j x y h l d e = omega (arith, number-in-bank i x d, number-in-bank j y e, numbers-up i j h l)
+  banks-ascend : Ascending (λ (i : ℕ). hitIn n g v w k f (bank i)) n
+  banks-ascend i j x y h l d e = omega (arith, number-in-bank (bank i) x d, number-in-bank (bank j) y e, numbers-up (bank i) (bank j) h l)
 
-  bank-ascends : (i : ℕ) → Ascending (hitAt n g v w k f i) (tried g k f i)
-  bank-ascends i a b x y h l d e = rw (hit-is i a x d .1, hit-is i b y e .1) (omega arith)
+  bank-ascends : (b : Bank) → Ascending (hitAt n g v w k f b) (tried g k f b)
+  bank-ascends b i j x y h l d e = rw (hit-is b i x d .1, hit-is b j y e .1) (omega arith)
 
   -- for every active filter of class k in FIFO f that takes the word, the first hit is a filter with a number no higher
-  pub lowest : (i j : ℕ) → ActiveMatch n g v w k f i j
-      → (x : FilterNumber) × (firstHit n g v w k f ≡ Filter x) × (x .0 ≤ numberOf n g f i j .0)
+  pub lowest : (b : Bank) (j : ℕ) → ActiveMatch n g v w k f b j
+      → (x : FilterNumber) × (firstHit n g v w k f ≡ Filter x) × (x .0 ≤ numberOf n g f b j .0)
   unfolding firstHit hitIn tried
-  lowest i j m =
-      let looked : j < tried g k f i = rw (is-searched g k f i (m .active) (m .assigned) (m .class)) (filter-within k _ _ j w (m .takes)) in
-      let inner = first-lowest (hitAt n g v w k f i) (tried g k f i) (bank-ascends i) j _ looked (hit n g v w k f i j (m .takes)) in
-      let outer = first-lowest (hitIn n g v w k f) n banks-ascend i (inner .0) (m .within) (inner .1) in
+  lowest b j m =
+      let looked : j < tried g k f b = rw (is-searched g k f b (m .active) (m .assigned) (m .class)) (filter-within k _ _ j w (m .takes)) in
+      let inner = first-lowest (hitAt n g v w k f b) (tried g k f b) (bank-ascends b) j _ looked (hit n g v w k f b j (m .takes)) in
+      let outer = first-lowest (λ (i : ℕ). hitIn n g v w k f (bank i)) n banks-ascend (b .0) (inner .0) (m .within) (inner .1) in
       (outer .0, outer .1, omega (arith, outer .2, inner .2))
 
   -- and the first hit is the number of an active filter of class k in FIFO f that takes the word
   pub first-hit-active : (x : FilterNumber) → firstHit n g v w k f ≡ Filter x
-      → (i : ℕ) × (j : ℕ) × ActiveMatch n g v w k f i j × (x ≡ numberOf n g f i j)
+      → (b : Bank) × (j : ℕ) × ActiveMatch n g v w k f b j × (x ≡ numberOf n g f b j)
   unfolding firstHit
-  first-hit-active x e = go (first-of-row (hitIn n g v w k f) n)
+  first-hit-active x e = go (first-of-row (λ (i : ℕ). hitIn n g v w k f (bank i)) n)
     where
-      go : FirstOfRow (hitIn n g v w k f) n → (i : ℕ) × (j : ℕ) × ActiveMatch n g v w k f i j × (x ≡ numberOf n g f i j)
+      go : FirstOfRow (λ (i : ℕ). hitIn n g v w k f (bank i)) n → (b : Bank) × (j : ℕ) × ActiveMatch n g v w k f b j × (x ≡ numberOf n g f b j)
       go (nowhere s q) = nothing-no-filter s e
       go (at i y l d s q) =
-          let b = bank-hit i x (cc) in
-          let s = searched-is g k f i (tried-searched g k f i (b .0) (b .1)) in
-          let is = hit-is i (b .0) x (b .2) in
-          (i, b .0, record { within = l; active = s .0; assigned = s .1; class = s .2; takes = is .0 }, is .1)
+          let h = bank-hit (bank i) x (cc) in
+          let s = searched-is g k f (bank i) (tried-searched g k f (bank i) (h .0) (h .1)) in
+          let is = hit-is (bank i) (h .0) x (h .2) in
+          (bank i, h .0, record { within = l; active = s .0; assigned = s .1; class = s .2; takes = is .0 }, is .1)

@@ -1,17 +1,18 @@
 -- The number of a bank's first filter is four counts of ones, whatever the number of banks up to 32. Assumes nothing.
-use mathlib.Core.Path.{_≡_, refl, sym, ap, _∙_}
+use mathlib.Core.Path.{_≡_, refl, sym}
 use mathlib.Core.Bool.{Bool, true, false, not}
 use Prim.Native.Nat.{ℕ, zero, suc, _+_, _-_, _/_, _%_, _^_, _≤_, _<_, min}
 use native.Mathlib.Omega.{arith}
-use borrow.Author.Tests.{lt-ltb, ltb-true}
+use borrow.Author.Tests.{ltb-true}
 use lib.Dec.{eqb, ltb}
 use lib.Bits.{bitAnd}
-use Rattle.model.specs.Base.{pick, sum}
-use Rattle.model.specs.Banks.{bank, filterNumber, classBy, classOf, width, belongs, own, share, firstNumber}
+use Rattle.model.specs.Base.{pick, bit, sum}
+use Rattle.model.specs.Banks.{bank, filterNumber, classBy, classOf, width, belongs, own, share, numbersBelow, banksBelow, firstNumber, fourCounts}
 use Rattle.model.specs.declared.Filters.{Filters}
+use Rattle.model.specs.declared.Bank.{Bank}
 use Rattle.model.specs.declared.Fifo.{Fifo}
 use Rattle.model.specs.declared.Fifo.the-variants.{F0, F1}
-use Rattle.model.proofs.Digits.{for-digit, and-digit, not-digit, onesBelow, ones-below}
+use Rattle.model.proofs.Digits.{for-digit, and-digit, not-digit, ones-below}
 
 -- ---- one bank
 
@@ -31,22 +32,18 @@ other-digit : (x : ℕ) → x < 2 → eqb (1 - x) 1 ≡ not (eqb x 1)
 other-digit = for-digit (λ (x : ℕ). eqb (1 - x) 1 ≡ not (eqb x 1)) refl refl
 
 -- the word `own` has a 1 for just the banks of the FIFO
-pub own-digit : (f : Fifo) (g : Filters) (i : ℕ) → i < 32 → g .assignment < 2 ^ 32 → eqb (own f g / 2 ^ i % 2) 1 ≡ belongs f g i
-own-digit F1 g i hi h = refl
-own-digit F0 g i hi h = rw (not-digit i (g .assignment) hi h) (other-digit (g .assignment / 2 ^ i % 2) (omega arith))
+pub own-digit : (f : Fifo) (g : Filters) (b : Bank) → b .0 < 32 → g .assignment < 2 ^ 32 → bit (b .0) (own f g) ≡ belongs f g b
+own-digit F1 g b l h = refl
+own-digit F0 g b l h = rw (not-digit (b .0) (g .assignment) l h) (other-digit (g .assignment / 2 ^ (b .0) % 2) (omega arith))
 
 -- ---- the banks below
 
--- how many of n banks come before bank i
-abbrev pub banksBelow : ℕ → ℕ → ℕ
-banksBelow n i = pick (ltb i n) i n
-
 -- never more than n
-pub banks-below-le : (n i : ℕ) → banksBelow n i ≤ n
-banks-below-le n i = go (ltb i n) refl
+pub banks-below-le : (n : ℕ) (b : Bank) → banksBelow n b ≤ n
+banks-below-le n b = go (ltb (b .0) n) refl
   where
-    go : (b : Bool) → ltb i n ≡ b → pick b i n ≤ n
-    go true e = omega (arith, ltb-true i n e)
+    go : (t : Bool) → ltb (b .0) n ≡ t → pick t (b .0) n ≤ n
+    go true e = omega (arith, ltb-true (b .0) n e)
     go false e = omega arith
 
 four-sums : (p q r s t : ℕ → ℕ) (i : ℕ) → ((j : ℕ) → j < i → p j + q j + r j + s j ≡ t j)
@@ -55,16 +52,10 @@ unfolding sum
 four-sums p q r s t zero h = refl
 four-sums p q r s t (suc i) h = omega (arith, four-sums p q r s t i (λ j l. h j (omega arith)), h i (omega arith))
 
--- the four counts: the FIFO's banks below place i, those of them in list mode, those with 16 bits, those with both
-abbrev pub fourCounts : ℕ → Filters → Fifo → ℕ
-fourCounts i g f =
-    onesBelow i (own f g) + onesBelow i (bitAnd (own f g) (g .mode)) + onesBelow i (bitAnd (own f g) ((2 ^ 32 - 1) - g .scale))
-    + onesBelow i (bitAnd (bitAnd (own f g) (g .mode)) ((2 ^ 32 - 1) - g .scale))
-
 module _ (g : Filters) (f : Fifo) (ha : g .assignment < 2 ^ 32) (hs : g .scale < 2 ^ 32) where
   one-bank : (j : ℕ) → j < 32
       → own f g / 2 ^ j % 2 + bitAnd (own f g) (g .mode) / 2 ^ j % 2 + bitAnd (own f g) ((2 ^ 32 - 1) - g .scale) / 2 ^ j % 2
-      + bitAnd (bitAnd (own f g) (g .mode)) ((2 ^ 32 - 1) - g .scale) / 2 ^ j % 2 ≡ share f g j
+      + bitAnd (bitAnd (own f g) (g .mode)) ((2 ^ 32 - 1) - g .scale) / 2 ^ j % 2 ≡ share f g (bank j)
   unfolding classOf
   one-bank j h =
       rw (
@@ -72,12 +63,12 @@ module _ (g : Filters) (f : Fifo) (ha : g .assignment < 2 ^ 32) (hs : g .scale <
         and-digit j (own f g) (g .mode),
         and-digit j (own f g) ((2 ^ 32 - 1) - g .scale),
         not-digit j (g .scale) h hs,
-        ← (own-digit f g j h ha),
+        ← (own-digit f g (bank j) h ha),
       )
       (by-digits (own f g / 2 ^ j % 2) (g .mode / 2 ^ j % 2) (g .scale / 2 ^ j % 2) (omega arith) (omega arith) (omega arith))
 
   -- the four counts are the numbers that the i lowest banks take
-  pub counts-are-sum : (i : ℕ) → i ≤ 32 → fourCounts i g f ≡ sum (share f g) i
+  pub counts-are-sum : (i : ℕ) → i ≤ 32 → fourCounts i g f ≡ numbersBelow f g i
   counts-are-sum i l =
       rw (
         ones-below i (own f g),
@@ -89,13 +80,9 @@ module _ (g : Filters) (f : Fifo) (ha : g .assignment < 2 ^ 32) (hs : g .scale <
 
   -- the number of a bank's first filter, of n banks, is the four counts of ones below the bank; a bank past the last counts as if it
   -- came next
-  pub first-number-from-counts : (n i : ℕ) → n ≤ 32 → firstNumber n g f (bank i) .0 ≡ fourCounts (banksBelow n i) g f
+  pub first-number-from-counts : (n : ℕ) (b : Bank) → n ≤ 32 → firstNumber n g f b .0 ≡ fourCounts (banksBelow n b) g f
   unfolding firstNumber
-  first-number-from-counts n i l = sym (counts-are-sum (banksBelow n i) (omega (arith, banks-below-le n i)))
-
-  -- so for a bank that is one of the n it is the ones below its own place
-  pub first-number-within : (n i : ℕ) → n ≤ 32 → i < n → firstNumber n g f (bank i) .0 ≡ fourCounts i g f
-  first-number-within n i l h = first-number-from-counts n i l ∙ ap (λ (m : ℕ). fourCounts m g f) (rw (lt-ltb i n h))
+  first-number-from-counts n b l = sym (counts-are-sum (banksBelow n b) (omega (arith, banks-below-le n b)))
 
 -- 14 banks, all with 16-bit lists in FIFO 0: bank 13 starts at 52
 pub bank-13-starts-at-52 : firstNumber 14 (record { mode = 0x3fff; scale = 0; assignment = 0; activation = 0; finit = false }) F0 (bank 13) ≡ filterNumber 52

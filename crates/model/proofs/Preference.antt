@@ -13,6 +13,7 @@ use Rattle.model.specs.Base.{pick}
 use Rattle.model.specs.Banks.{filterNumber}
 use Rattle.model.specs.Search.{better, orNext, chosen}
 use Rattle.model.specs.Codes.{fifoNumber}
+use Rattle.model.specs.Filtering.{NumberNoLater, NoLater}
 use Rattle.model.specs.declared.Fifo.{Fifo}
 use Rattle.model.specs.declared.Fifo.the-variants.{F0, F1}
 use Rattle.model.specs.declared.FilterNumber.{FilterNumber}
@@ -24,14 +25,6 @@ use Rattle.model.proofs.FirstHit.{nothing-no-filter}
 
 -- ---- the order of preference
 
--- number x in FIFO f comes no later than y in e: the lower number first, and FIFO 0 first where they are equal
-abbrev pub NumberNoLater : FilterNumber → Fifo → FilterNumber → Fifo → Type 0
-NumberNoLater x f y e = (x .0 < y .0) ⊎ ((x .0 ≡ y .0) × (fifoNumber f ≤ fifoNumber e))
-
--- the same with classes, the r-th and the s-th in preference: the class goes before the number
-abbrev pub NoLater : ℕ → FilterNumber → Fifo → ℕ → FilterNumber → Fifo → Type 0
-NoLater r x f s y e = (r < s) ⊎ ((r ≡ s) × NumberNoLater x f y e)
-
 -- what comes no later than a hit comes no later than one with a higher number
 pub no-later-than-higher : (r s : ℕ) (x y z : FilterNumber) (f e : Fifo) → NoLater r x f s y e → y .0 ≤ z .0 → NoLater r x f s z e
 no-later-than-higher r s x y z f e (inl p) l = inl p
@@ -39,7 +32,8 @@ no-later-than-higher r s x y z f e (inr (p, inl q)) l = inr (p, inl (omega arith
 no-later-than-higher r s x y z f e (inr (p, inr q)) l =
     inr (p, elim (eq-or-lt-of-le l) [ inl t ↦ inr (q .0 ∙ t, q .1) | inr t ↦ inl (omega (arith, q .0)) ])
 
-fifo-injective : (f e : Fifo) → fifoNumber f ≡ fifoNumber e → f ≡ e
+-- FIFOs of the same number are the same
+pub fifo-injective : (f e : Fifo) → fifoNumber f ≡ fifoNumber e → f ≡ e
 fifo-injective F0 F0 h = refl
 fifo-injective F1 F1 h = refl
 fifo-injective F0 F1 h = absurd (omega arith)

@@ -5,7 +5,8 @@ use mathlib.Core.List.{List, [], _∷_}
 use Prim.Native.Nat.{ℕ, zero, suc, _+_, _-_, _*_, _/_, _%_, _^_}
 use lib.Dec.{eqb, ltb}
 use lib.Bits.{bitAnd}
-use lib.ListN.{length}
+use lib.Count.{ones}
+use lib.ListN.{length, getD}
 use Rattle.model.specs.Base.{pick, bit, bits, sum}
 use Rattle.model.specs.declared.Filters.{Filters}
 use Rattle.model.specs.declared.Bank.{Bank}
@@ -21,6 +22,17 @@ bank i = record { 0 = i }
 abbrev pub filterNumber : ℕ → FilterNumber
 filterNumber x = record { 0 = x }
 
+-- R1 and R2 of a bank; v has the words of all banks, R1 and R2 of each in turn
+abbrev pub firstWord : List ℕ → Bank → ℕ
+firstWord v b = getD v (2 * (b .0)) 0
+
+abbrev pub secondWord : List ℕ → Bank → ℕ
+secondWord v b = getD v (2 * (b .0) + 1) 0
+
+-- the bank's bit in FA1R
+abbrev pub isActive : Filters → Bank → Bool
+isActive g b = bit (b .0) (g .activation)
+
 -- ---- the class of a bank: its bits in FS1R (1: 32-bit) and FM1R (1: list)
 
 abbrev pub classBy : Bool → Bool → FilterClass
@@ -29,8 +41,8 @@ classBy true false = Mask32
 classBy false true = List16
 classBy false false = Mask16
 
-unfoldable pub classOf : Filters → ℕ → FilterClass
-classOf g i = classBy (bit i (g .scale)) (bit i (g .mode))
+unfoldable pub classOf : Filters → Bank → FilterClass
+classOf g b = classBy (bit (b .0) (g .scale)) (bit (b .0) (g .mode))
 
 -- 32-bit wins over 16, list over mask
 abbrev pub rank : FilterClass → ℕ
@@ -92,20 +104,44 @@ matches k a b j w = takenAt (filters k a b) j (wordFor k w)
 -- ---- its numbers
 
 -- the bank's bit in FFA1R
-abbrev pub belongs : Fifo → Filters → ℕ → Bool
-belongs F0 g i = not (bit i (g .assignment))
-belongs F1 g i = bit i (g .assignment)
+abbrev pub belongs : Fifo → Filters → Bank → Bool
+belongs F0 g b = not (bit (b .0) (g .assignment))
+belongs F1 g b = bit (b .0) (g .assignment)
+
+-- how many numbers of the FIFO a bank takes, active or not
+abbrev pub share : Fifo → Filters → Bank → ℕ
+share f g b = pick (belongs f g b) (width (classOf g b)) 0
+
+-- how many the i lowest banks take
+abbrev pub numbersBelow : Fifo → Filters → ℕ → ℕ
+numbersBelow f g i = sum (λ (j : ℕ). share f g (bank j)) i
+
+-- how many of n banks come before a bank
+abbrev pub banksBelow : ℕ → Bank → ℕ
+banksBelow n b = pick (ltb (b .0) n) (b .0) n
+
+-- the number of a bank's first filter, of n banks: each FIFO numbers its own banks' filters upward from 0. (For a bank of the
+-- other FIFO or past the last one it is the next free number.)
+unfoldable pub firstNumber : ℕ → Filters → Fifo → Bank → FilterNumber
+firstNumber n g f b = filterNumber (numbersBelow f g (banksBelow n b))
+
+-- the number of a bank's filter j
+abbrev pub numberOf : ℕ → Filters → Fifo → Bank → ℕ → FilterNumber
+numberOf n g f b j = filterNumber (firstNumber n g f b .0 + j)
+
+-- ---- the same from counts of ones in the mode, scale and assignment words
 
 -- the word with a 1 for each bank of the FIFO; for FIFO 0 the bits past the last bank are 1 too
 abbrev pub own : Fifo → Filters → ℕ
 own F0 g = (2 ^ 32 - 1) - g .assignment
 own F1 g = g .assignment
 
--- how many numbers of the FIFO a bank takes, active or not
-abbrev pub share : Fifo → Filters → ℕ → ℕ
-share f g i = pick (belongs f g i) (width (classOf g i)) 0
+-- how many of the i lowest bits of w are 1
+abbrev pub onesBelow : ℕ → ℕ → ℕ
+onesBelow i w = ones (bitAnd w (2 ^ i - 1))
 
--- the number of a bank's first filter, of n banks: each FIFO numbers its own banks' filters upward from 0. (For a bank of the
--- other FIFO or past the last one it is the next free number.)
-unfoldable pub firstNumber : ℕ → Filters → Fifo → Bank → FilterNumber
-firstNumber n g f b = filterNumber (sum (share f g) (pick (ltb (b .0) n) (b .0) n))
+-- of the i lowest banks: those of the FIFO, those of them in list mode, those with 16 bits, those with both
+abbrev pub fourCounts : ℕ → Filters → Fifo → ℕ
+fourCounts i g f =
+    onesBelow i (own f g) + onesBelow i (bitAnd (own f g) (g .mode)) + onesBelow i (bitAnd (own f g) ((2 ^ 32 - 1) - g .scale))
+    + onesBelow i (bitAnd (bitAnd (own f g) (g .mode)) ((2 ^ 32 - 1) - g .scale))

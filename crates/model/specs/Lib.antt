@@ -15,4 +15,5 @@ pub mod Reachable
 pub mod Codes
 pub mod History
 pub mod Anywhere
+pub mod Filtering
 pub mod Examples

@@ -2,12 +2,12 @@
 -- Document 01: "Order, filters, storage". n is the number of banks, v their words R1 and R2 in turn, w the identifier word.
 use mathlib.Core.Bool.{Bool, true, false, _&&_}
 use mathlib.Core.List.{List, [], _∷_}
-use Prim.Native.Nat.{ℕ, zero, suc, _+_, _*_}
+use Prim.Native.Nat.{ℕ, zero, suc}
 use lib.Dec.{eqb, ltb}
-use lib.ListN.{getD}
-use Rattle.model.specs.Base.{pick, bit}
-use Rattle.model.specs.Banks.{bank, filterNumber, classOf, rank, width, matches, belongs, firstNumber}
+use Rattle.model.specs.Base.{pick}
+use Rattle.model.specs.Banks.{bank, firstWord, secondWord, isActive, classOf, rank, width, matches, belongs, numberOf}
 use Rattle.model.specs.declared.Filters.{Filters}
+use Rattle.model.specs.declared.Bank.{Bank}
 use Rattle.model.specs.declared.FilterClass.{FilterClass}
 use Rattle.model.specs.declared.FilterClass.the-variants.{List32, Mask32, List16, Mask16}
 use Rattle.model.specs.declared.Fifo.{Fifo}
@@ -31,26 +31,25 @@ first p (suc n) = orElse (first p n) (p n)
 
 -- ---- one class in one FIFO
 
--- bank i is active, of this FIFO and of this class
-unfoldable pub searched : Filters → FilterClass → Fifo → ℕ → Bool
-searched g k f i = bit i (g .activation) && (belongs f g i && eqb (rank (classOf g i)) (rank k))
+-- the bank is active, of this FIFO and of this class
+unfoldable pub searched : Filters → FilterClass → Fifo → Bank → Bool
+searched g k f b = isActive g b && (belongs f g b && eqb (rank (classOf g b)) (rank k))
 
--- how many filters of bank i are looked at
-unfoldable pub tried : Filters → FilterClass → Fifo → ℕ → ℕ
-tried g k f i = pick (searched g k f i) (width k) 0
+-- how many of its filters are looked at
+unfoldable pub tried : Filters → FilterClass → Fifo → Bank → ℕ
+tried g k f b = pick (searched g k f b) (width k) 0
 
--- filter j of bank i, if it matches
-unfoldable pub hitAt : ℕ → Filters → List ℕ → ℕ → FilterClass → Fifo → ℕ → ℕ → Hit
-hitAt n g v w k f i j =
-    pick (matches k (getD v (2 * i) 0) (getD v (2 * i + 1) 0) j w) (Filter (filterNumber (firstNumber n g f (bank i) .0 + j))) Nothing
+-- its filter j, if it matches
+unfoldable pub hitAt : ℕ → Filters → List ℕ → ℕ → FilterClass → Fifo → Bank → ℕ → Hit
+hitAt n g v w k f b j = pick (matches k (firstWord v b) (secondWord v b) j w) (Filter (numberOf n g f b j)) Nothing
 
--- the first filter of bank i that matches
-unfoldable pub hitIn : ℕ → Filters → List ℕ → ℕ → FilterClass → Fifo → ℕ → Hit
-hitIn n g v w k f i = first (hitAt n g v w k f i) (tried g k f i)
+-- its first filter that matches
+unfoldable pub hitIn : ℕ → Filters → List ℕ → ℕ → FilterClass → Fifo → Bank → Hit
+hitIn n g v w k f b = first (hitAt n g v w k f b) (tried g k f b)
 
 -- the matching filter with the lowest number
 unfoldable pub firstHit : ℕ → Filters → List ℕ → ℕ → FilterClass → Fifo → Hit
-firstHit n g v w k f = first (hitIn n g v w k f) n
+firstHit n g v w k f = first (λ (i : ℕ). hitIn n g v w k f (bank i)) n
 
 -- ---- the winner
 

@@ -15,22 +15,22 @@ own-requires : tie.Need-own-requires
 own-requires c κs = search needs
 
 ones-below-requires : tie.Need-ones-below-requires
-ones-below-requires c κs = omega (arith, c .before .before .before .pick-u32 .ensures, banks-below-le (c .before .before .before .before .before .args .n) (c .before .before .before .before .before .args .b .0))
+ones-below-requires c κs = omega (arith, c .before .before .before .pick-u32 .ensures, banks-below-le (c .before .before .before .before .before .args .n) (c .before .before .before .before .before .args .b))
 
 ones-below-requires-2 : tie.Need-ones-below-requires-2
-ones-below-requires-2 c κs = omega (arith, c .before .before .before .before .pick-u32 .ensures, banks-below-le (c .before .before .before .before .before .before .args .n) (c .before .before .before .before .before .before .args .b .0))
+ones-below-requires-2 c κs = omega (arith, c .before .before .before .before .pick-u32 .ensures, banks-below-le (c .before .before .before .before .before .before .args .n) (c .before .before .before .before .before .before .args .b))
 
 add-number : tie.Need-add-number
 add-number c = search needs
 
 ones-below-requires-3 : tie.Need-ones-below-requires-3
-ones-below-requires-3 c κs = omega (arith, c .before .before .before .before .before .pick-u32 .ensures, banks-below-le (c .before .before .before .before .before .before .before .args .n) (c .before .before .before .before .before .before .before .args .b .0))
+ones-below-requires-3 c κs = omega (arith, c .before .before .before .before .before .pick-u32 .ensures, banks-below-le (c .before .before .before .before .before .before .before .args .n) (c .before .before .before .before .before .before .before .args .b))
 
 add-number-2 : tie.Need-add-number-2
 add-number-2 c = search needs
 
 ones-below-requires-4 : tie.Need-ones-below-requires-4
-ones-below-requires-4 c κs = omega (arith, c .before .before .before .before .before .before .pick-u32 .ensures, banks-below-le (c .before .before .before .before .before .before .before .before .args .n) (c .before .before .before .before .before .before .before .before .args .b .0))
+ones-below-requires-4 c κs = omega (arith, c .before .before .before .before .before .before .pick-u32 .ensures, banks-below-le (c .before .before .before .before .before .before .before .before .args .n) (c .before .before .before .before .before .before .before .before .args .b))
 
 add-number-3 : tie.Need-add-number-3
 add-number-3 c = search needs
@@ -44,7 +44,7 @@ returns c =
     let g = at .args .g in
     let ha : g .assignment < 2 ^ 32 = omega (arith, c .before .before .before .before .before .struct-known2 .given) in
     let hs : g .scale < 2 ^ 32 = omega (arith, c .before .before .before .before .before .struct-known2 .given) in
-    let counts = first-number-from-counts g (at .args .f) ha hs (at .args .n) (at .args .b .0) (omega arith) in (
+    let counts = first-number-from-counts g (at .args .f) ha hs (at .args .n) (at .args .b) (omega arith) in (
       ap filterNumber
           (rw (
             c .ones-below4 .ensures .0,

@@ -19,16 +19,16 @@ enum-told-4 : tie.Need-enum-told-4
 enum-told-4 c = search needs
 
 returns : tie.Need-returns
-returns c = λ i h. simp (c .before .enum-told .given .1) (of-class-bit (c .before .before .before .args .g) i h (omega (arith, c .struct-known .given)) (omega (arith, c .struct-known .given)) List32)
+returns c = λ b h. simp (c .before .enum-told .given .1) (of-class-bit (c .before .before .before .args .g) b h (omega (arith, c .struct-known .given)) (omega (arith, c .struct-known .given)) List32)
 
 returns-2 : tie.Need-returns-2
-returns-2 c = λ i h. simp (c .before .before .enum-told2 .given .1) (of-class-bit (c .before .before .before .before .args .g) i h (omega (arith, c .struct-known3 .given)) (omega (arith, c .struct-known3 .given)) Mask32)
+returns-2 c = λ b h. simp (c .before .before .enum-told2 .given .1) (of-class-bit (c .before .before .before .before .args .g) b h (omega (arith, c .struct-known3 .given)) (omega (arith, c .struct-known3 .given)) Mask32)
 
 returns-3 : tie.Need-returns-3
-returns-3 c = λ i h. simp (c .before .before .enum-told3 .given .1) (of-class-bit (c .before .before .before .before .args .g) i h (omega (arith, c .struct-known5 .given)) (omega (arith, c .struct-known5 .given)) List16)
+returns-3 c = λ b h. simp (c .before .before .enum-told3 .given .1) (of-class-bit (c .before .before .before .before .args .g) b h (omega (arith, c .struct-known5 .given)) (omega (arith, c .struct-known5 .given)) List16)
 
 returns-4 : tie.Need-returns-4
-returns-4 c = λ i h. simp (c .before .before .enum-told4 .given .1) (of-class-bit (c .before .before .before .before .args .g) i h (omega (arith, c .struct-known7 .given)) (omega (arith, c .struct-known7 .given)) Mask16)
+returns-4 c = λ b h. simp (c .before .before .enum-told4 .given .1) (of-class-bit (c .before .before .before .before .args .g) b h (omega (arith, c .struct-known7 .given)) (omega (arith, c .struct-known7 .given)) Mask16)
 
 pub of-class-spec : {M : Type 1} → statement M
 of-class-spec =

@@ -13,8 +13,8 @@ of-class-requires c κs = search needs
 
 returns : tie.Need-returns
 returns c =
-    λ i h. simp (c .before .before .own .ensures)
-    (searched-bit (c .before .before .before .args .g) (c .before .before .before .args .k) (c .before .before .before .args .f) _ i h (omega (arith, c .struct-known .given)) (c .before .of-class .ensures i h))
+    λ b h. simp (c .before .before .own .ensures)
+    (searched-bit (c .before .before .before .args .g) (c .before .before .before .args .k) (c .before .before .before .args .f) _ b h (omega (arith, c .struct-known .given)) (c .before .of-class .ensures b h))
 
 pub searched-spec : {M : Type 1} → statement M
 searched-spec = tie.close (tie.spec own-requires of-class-requires returns)
