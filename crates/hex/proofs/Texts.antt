@@ -1,9 +1,7 @@
--- A text may be read in pieces, a reader at a fault gives nothing more, and what is written as two digits is read back.
-use mathlib.Core.Bool.{Bool, true, false, _&&_}
-use mathlib.Core.Path.{_≡_, refl, sym, ap, ap₂, _∙_}
+-- A text may be read in pieces, and a reader at a fault gives nothing more.
+use mathlib.Core.Path.{_≡_, refl, sym, ap, _∙_}
 use mathlib.Core.List.{List, [], _∷_, _++_, append-assoc, append-nil}
-use Prim.Native.Nat.{ℕ, zero, suc, _+_, _*_, _/_, _%_, _<_}
-use lib.Dec.{eqb, ltb}
+use Prim.Native.Nat.{ℕ, _+_}
 use Rattle.hex.specs.Text.{taken, readerAfter, givenBy, bytesOf, Progress, advanced, readOn, unhexed, at}
 use Rattle.hex.specs.declared.Reader.{Reader}
 use Rattle.hex.specs.declared.Fault.{Fault}

@@ -18,6 +18,25 @@ use Rattle.hex.specs.declared.Given.the-variants.{Byte, Nothing}
 use Rattle.hex.specs.declared.Advance.{Advance}
 use Rattle.hex.specs.declared.Piece.{Piece}
 
+-- ---- the cases as numbers, each with its values; what is given is told by its bytes, `bytesOf`
+
+abbrev pub kindNumbers : Kind → List ℕ
+kindNumbers (Digit v) = 0 ∷ v ∷ []
+kindNumbers Blank = 1 ∷ []
+kindNumbers LineEnd = 2 ∷ []
+kindNumbers Hash = 3 ∷ []
+kindNumbers Other = 4 ∷ []
+
+abbrev pub faultNumbers : Fault → List ℕ
+faultNumbers (Character c) = 0 ∷ c ∷ []
+faultNumbers LoneDigit = 1 ∷ []
+
+abbrev pub placeNumbers : Place → List ℕ
+placeNumbers Between = 0 ∷ []
+placeNumbers (Inside h) = 1 ∷ h ∷ []
+placeNumbers Comment = 2 ∷ []
+placeNumbers (Stopped f) = 3 ∷ faultNumbers f
+
 -- ---- characters
 
 abbrev pub isWithin : ℕ → ℕ → ℕ → Bool

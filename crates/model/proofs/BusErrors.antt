@@ -48,7 +48,7 @@ and-comm true false = refl
 and-comm false true = refl
 and-comm false false = refl
 
-and-true : (a : Bool) → (a && true) ≡ a
+pub and-true : (a : Bool) → (a && true) ≡ a
 and-true true = refl
 and-true false = refl
 

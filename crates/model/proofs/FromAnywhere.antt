@@ -13,8 +13,9 @@ use Rattle.model.specs.Fairness.{Fairness, requestsFrom}
 use Rattle.model.specs.Reachable.{InRange, StepRange, StepsRange}
 use Rattle.model.specs.History.{Tied}
 use Rattle.model.specs.Script.{byteAt, number16, number32, bodyLength, decoded, part, reading, recordAt, replayed, begun, afterRecord, advanced, times, replay, stepsBy, stepsFrom, stepsOf}
+use Rattle.model.specs.Records.{Bytes}
 use Rattle.model.specs.Scripts.{isEnd, headerShort, tagUnknown, lengthWrong, bodyShort, behind, answeredSteps}
-use Rattle.model.specs.Anywhere.{InTypes, AllInTypes, OfCallers, Bytes, OfScripts, FromState, HardwareReset, BehindReset, opened, OpensWithReset}
+use Rattle.model.specs.Anywhere.{InTypes, AllInTypes, OfCallers, OfScripts, FromState, HardwareReset, BehindReset, opened, OpensWithReset}
 use Rattle.model.specs.declared.Controller.{Controller}
 use Rattle.model.specs.declared.Reading.{Reading}
 use Rattle.model.specs.declared.Reading.the-variants.{Found}
@@ -51,27 +52,26 @@ of-callers l = record { range = all-range l; reachable = λ h. reachable l (all-
 
 -- ---- scripts
 
-byte-small : (s : List ℕ) (i : ℕ) → Bytes s → byteAt s i < 256
-byte-small [] i h = omega arith
-byte-small (b ∷ s) zero h = h .0
-byte-small (b ∷ s) (suc i) h = byte-small s i (h .1)
+bytes-tail : (b : ℕ) (s : List ℕ) → Bytes (b ∷ s) → Bytes s
+bytes-tail b s h = λ i. h (suc i)
 
 bytes-drop : (n : ℕ) (s : List ℕ) → Bytes s → Bytes (drop n s)
 bytes-drop zero s h = h
-bytes-drop (suc n) [] h = tt
-bytes-drop (suc n) (b ∷ s) h = bytes-drop n s (h .1)
+bytes-drop (suc n) [] h = h
+bytes-drop (suc n) (b ∷ s) h = bytes-drop n s (bytes-tail b s h)
 
 bytes-take : (n : ℕ) (s : List ℕ) → Bytes s → Bytes (take n s)
-bytes-take zero s h = tt
-bytes-take (suc n) [] h = tt
-bytes-take (suc n) (b ∷ s) h = (h .0, bytes-take n s (h .1))
+bytes-take zero s h i = omega arith
+bytes-take (suc n) [] h i = omega arith
+bytes-take (suc n) (b ∷ s) h zero = h zero
+bytes-take (suc n) (b ∷ s) h (suc i) = bytes-take n s (bytes-tail b s h) i
 
 bytes-part : (s : List ℕ) (a e : ℕ) → Bytes s → Bytes (part s a e)
 bytes-part s a e h = bytes-take (e - a) (drop a s) (bytes-drop a s h)
 
 module _ (b : List ℕ) (h : Bytes b) where
   small-16 : (i : ℕ) → number16 b i < 2 ^ 16
-  small-16 i = omega (arith, byte-small b i h, byte-small b (i + 1) h)
+  small-16 i = omega (arith, h i, h (i + 1))
 
   small-32 : (i : ℕ) → number32 b i < 2 ^ 32
   small-32 i = omega (arith, small-16 i, small-16 (i + 2))
@@ -87,9 +87,9 @@ module _ (b : List ℕ) (h : Bytes b) where
       (λ _. pick-cases InTypes (eqb t 5) _ _ (λ _. small-16 0)
       (λ _. pick-cases InTypes (eqb t 6) _ _ (λ _. tt)
       (λ _. pick-cases InTypes (eqb t 7) _ _ (λ _. tt)
-      (λ _. pick-cases InTypes (eqb t 8) _ _ (λ _. byte-small b 0 h)
-      (λ _. pick-cases InTypes (eqb t 9) _ _ (λ _. (small-32 0, small-32 5, small-32 9, byte-small b 4 h))
-      (λ _. (byte-small b 0 h, byte-small b 1 h))))))))))
+      (λ _. pick-cases InTypes (eqb t 8) _ _ (λ _. h 0)
+      (λ _. pick-cases InTypes (eqb t 9) _ _ (λ _. (small-32 0, small-32 5, small-32 9, h 4))
+      (λ _. (h 0, h 1))))))))))
 
 -- each step of a script, by the cases of its reading
 steps-types : (n : ℕ) (s : List ℕ) (p : ℕ) → Bytes s → AllInTypes (stepsFrom n s p)
@@ -166,6 +166,12 @@ behind-reset z before l = record {
 abbrev resetRecord : List ℕ
 resetRecord = opened []
 
+opened-bytes : (rest : List ℕ) → Bytes rest → Bytes (opened rest)
+opened-bytes rest h zero = omega arith
+opened-bytes rest h (suc zero) = omega arith
+opened-bytes rest h (suc (suc zero)) = omega arith
+opened-bytes rest h (suc (suc (suc i))) = h i
+
 module _ (rest : List ℕ) where
   opened-reading : reading (opened rest) 0 ≡ Found Reset 3
   unfolding reading bodyLength decoded
@@ -199,7 +205,7 @@ opens-with-reset z rest space = record {
   same = same;
   behind = behind-reset z [] (answeredSteps rest (space - 9));
   range = answered-range rest (space - 9);
-  reachable = λ h r. rw (same h) (of-scripts (opened rest) space .reachable (omega arith, (omega arith, (omega arith, r))));
+  reachable = λ h r. rw (same h) (of-scripts (opened rest) space .reachable (opened-bytes rest r));
 }
   where
     same : 9 ≤ space → replay z (opened rest) space ≡ replay reset (opened rest) space

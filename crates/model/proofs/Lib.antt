@@ -34,6 +34,7 @@ pub mod QueueRanges
 pub mod Reached
 pub mod FromAnywhere
 pub mod Readings
+pub mod Recorded
 pub mod Replays
 pub mod Tied
 pub mod WriteRanges
@@ -41,3 +42,4 @@ pub mod Arrivals
 pub mod BusErrors
 pub mod HistoryReads
 pub mod Timing
+pub mod MailboxTimes

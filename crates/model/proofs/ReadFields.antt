@@ -141,7 +141,7 @@ byte-small : (x : MailboxState) (a : Bool) → tsrByte x a < 256
 unfolding tsrByte
 byte-small x a = omega (arith, one-le (x .rqcp), one-le (x .txok), one-le (x .alst), one-le (x .terr), one-le a)
 
-sender-small : (w : Sender) → senderNumber w ≤ 3
+pub sender-small : (w : Sender) → senderNumber w ≤ 2
 sender-small Nobody = omega arith
 sender-small (From M0) = omega arith
 sender-small (From M1) = omega arith
@@ -152,7 +152,7 @@ unfolding code
 code-small p t =
     pick-cases (λ (n : ℕ). n ≤ 3) (tme t M0) _ _ (λ _. omega arith)
     (λ _. pick-cases (λ (n : ℕ). n ≤ 3) (tme t M1) _ _ (λ _. omega arith)
-    (λ _. pick-cases (λ (n : ℕ). n ≤ 3) (tme t M2) _ _ (λ _. omega arith) (λ _. sender-small (lastOf p t))))
+    (λ _. pick-cases (λ (n : ℕ). n ≤ 3) (tme t M2) _ _ (λ _. omega arith) (λ _. omega (arith, sender-small (lastOf p t)))))
 
 module _ (p : Bool) (t : Transmit) where
   low-small : tsrByte (t .mailboxes .m0) (t .queue .aborts .m0) + tsrByte (t .mailboxes .m1) (t .queue .aborts .m1) * 2 ^ 8 + tsrByte (t .mailboxes .m2) (t .queue .aborts .m2) * 2 ^ 16 + code p t * 2 ^ 24 < 2 ^ 26

@@ -1,23 +1,26 @@
 -- One record of a script: the codes of a step are at most 5, and the codes 6 to 9 are given exactly when document 01 says.
 use mathlib.Core.Bool.{Bool, true, false, not, _&&_, _||_, true≢false, false≢true}
 use mathlib.Core.Path.{_≡_, refl, sym, _∙_}
-use mathlib.Core.List.{List}
+use mathlib.Core.List.{List, [], _∷_}
 use Prim.Native.Nat.{ℕ, _+_, _-_, _≤_, _<_}
 use native.Mathlib.Omega.{arith}
 use lib.Dec.{eqb, ltb, leb}
-use lib.ListN.{length}
-use borrow.Author.Tests.{ltb-false, leb-true, leb-false, lt-leb, ne-eqb}
+use lib.ListN.{length, drop, length-append, length-drop}
+use lib.Seq.{take-append-seam, drop-append-seam}
+use borrow.Author.Tests.{ltb-false, leb-true, leb-false, lt-leb, le-leb, ne-eqb}
 use Rattle.model.specs.Base.{pick}
-use Rattle.model.specs.Step.{step}
-use Rattle.model.specs.Script.{byteAt, bodyLength, reading, readingCode, stayed, atEnd, passed, replayed, recordAt, stops}
-use Rattle.model.specs.Scripts.{isEnd, noSpace, headerShort, tagUnknown, lengthWrong, bodyShort, behind, stepAt, RecordCodes}
+use Rattle.model.specs.Step.{refusal, answered, step}
+use Rattle.model.specs.Script.{byteAt, bodyLength, reading, readingCode, reply, stayed, atEnd, passed, replayed, recordAt, replyOf, overwritten, stops}
+use Rattle.model.specs.Records.{stepNumbers, readingNumbers}
+use Rattle.model.specs.Scripts.{isEnd, noSpace, headerShort, tagUnknown, lengthWrong, bodyShort, behind, stepAt, ReadingCodes, Unchanged, Answers, Overwrites, RecordCodes}
+use Rattle.model.specs.declared.Core.{Core}
 use Rattle.model.specs.declared.Controller.{Controller}
 use Rattle.model.specs.declared.Stepped.{Stepped}
 use Rattle.model.specs.declared.Reading.{Reading}
 use Rattle.model.specs.declared.Reading.the-variants.{End, Malformed, Found}
 use Rattle.model.specs.declared.Replayed.{Replayed}
 use Rattle.model.specs.declared.Step as steps
-use Rattle.model.proofs.Choices.{pick-cases}
+use Rattle.model.proofs.Choices.{and-l, and-r, pick-cases}
 use Rattle.model.proofs.Coded.{codes}
 
 -- ---- the codes of a step
@@ -62,51 +65,71 @@ record-in-order z s p space =
 
 -- ---- the table
 
+-- what the tests say of the answer r
 record Table (e a h t w b : Bool) (z : Controller) (n p : ℕ) (x : Stepped) (q : ℕ) (r : Replayed) : Type 0 where
   ends : r .ended ≡ e
   code9 : eqb (r .code) 9 ≡ (not e && a)
   code6 : eqb (r .code) 6 ≡ (not e && not a && (h || (not t && not w && b)))
   code7 : eqb (r .code) 7 ≡ (not e && not a && not h && t)
   code8 : eqb (r .code) 8 ≡ (not e && not a && not h && not t && w)
-  unanswered : stops (r .ended) (r .code) ≡ true → r ≡ pick e (atEnd z n) (stayed z p (r .code))
-  answered : stops (r .ended) (r .code) ≡ false → r ≡ passed x q
-  ownCode : stops (r .ended) (r .code) ≡ false → r .code ≤ 5
+  atEnd : r .ended ≡ true → (r .code ≡ 0) × Unchanged z n r
+  stays : r .ended ≡ false → 6 ≤ r .code → Unchanged z p r
+  answered : r .ended ≡ false → r .code ≤ 5 → Answers x q r
+  atMost : r .code ≤ 9
+  writes : replyOf r ≡ pick (e || a) [] (reply (r .code) (r .lines) (r .word))
 
--- a row of a record that is not answered
-row : {e a h t w b : Bool} {z : Controller} {n p : ℕ} {x : Stepped} {q : ℕ} {r : Replayed}
-    → r .ended ≡ e → eqb (r .code) 9 ≡ (not e && a) → eqb (r .code) 6 ≡ (not e && not a && (h || (not t && not w && b)))
-    → eqb (r .code) 7 ≡ (not e && not a && not h && t) → eqb (r .code) 8 ≡ (not e && not a && not h && not t && w)
-    → stops (r .ended) (r .code) ≡ true → r ≡ pick e (atEnd z n) (stayed z p (r .code)) → Table e a h t w b z n p x q r
-row f k9 k6 k7 k8 k u = record {
-  ends = f;
+same-state : (z : Controller) (p k : ℕ) → Unchanged z p (stayed z p k)
+same-state z p k = record { controller = refl; place = refl; lines = refl; word = refl }
+
+-- a record that is refused with code k
+row : (a h t w b : Bool) (z : Controller) (n p : ℕ) (x : Stepped) (q k : ℕ) → (leb 6 k && leb k 9) ≡ true → eqb k 9 ≡ a → eqb k 6 ≡ (not a && (h || (not t && not w && b)))
+    → eqb k 7 ≡ (not a && not h && t) → eqb k 8 ≡ (not a && not h && not t && w) → Table false a h t w b z n p x q (stayed z p k)
+unfolding replyOf
+row a h t w b z n p x q k i k9 k6 k7 k8 = record {
+  ends = refl;
   code9 = k9;
   code6 = k6;
   code7 = k7;
   code8 = k8;
-  unanswered = λ _. u;
-  answered = λ l. absurd (true≢false (sym k ∙ l));
-  ownCode = λ l. absurd (true≢false (sym k ∙ l));
+  atEnd = λ f. absurd (false≢true f);
+  stays = λ f l. same-state z p k;
+  answered = λ f l. absurd (omega (arith, leb-true 6 k (and-l (leb 6 k) (leb k 9) i)));
+  atMost = leb-true k 9 (and-r (leb 6 k) (leb k 9) i);
+  writes = rw k9;
 }
 
 table : (e a h t w b : Bool) (z : Controller) (n p : ℕ) (x : Stepped) (q : ℕ) → x .code ≤ 5 → Table e a h t w b z n p x q (ordered e a h t w b z n p x q)
-table true a h t w b z n p x q l = row refl refl refl refl refl refl refl
-table false true h t w b z n p x q l = row refl refl refl refl refl refl refl
-table false false true t w b z n p x q l = row refl refl refl refl refl refl refl
-table false false false true w b z n p x q l = row refl refl refl refl refl refl refl
-table false false false false true b z n p x q l = row refl refl refl refl refl refl refl
-table false false false false false true z n p x q l = row refl refl refl refl refl refl refl
+unfolding replyOf
+table true a h t w b z n p x q l = record {
+  ends = refl;
+  code9 = refl;
+  code6 = refl;
+  code7 = refl;
+  code8 = refl;
+  atEnd = λ f. (refl, record { controller = refl; place = refl; lines = refl; word = refl });
+  stays = λ f _. absurd (true≢false f);
+  answered = λ f _. absurd (true≢false f);
+  atMost = omega arith;
+  writes = refl;
+}
+table false true h t w b z n p x q l = row true h t w b z n p x q 9 refl refl refl refl refl
+table false false true t w b z n p x q l = row false true t w b z n p x q 6 refl refl refl refl refl
+table false false false true w b z n p x q l = row false false true w b z n p x q 7 refl refl refl refl refl
+table false false false false true b z n p x q l = row false false false true b z n p x q 8 refl refl refl refl refl
+table false false false false false true z n p x q l = row false false false false true z n p x q 6 refl refl refl refl refl
 table false false false false false false z n p x q l = record {
   ends = refl;
   code9 = ne-eqb (x .code) 9 (λ e. omega arith);
   code6 = ne-eqb (x .code) 6 (λ e. omega arith);
   code7 = ne-eqb (x .code) 7 (λ e. omega arith);
   code8 = ne-eqb (x .code) 8 (λ e. omega arith);
-  unanswered = λ k. absurd (false≢true (rw (lt-leb 6 (x .code) (omega arith)) at k));
-  answered = λ k. refl;
-  ownCode = λ k. l;
+  atEnd = λ f. absurd (false≢true f);
+  stays = λ f m. absurd (omega arith);
+  answered = λ f m. record { controller = refl; place = refl; code = refl; lines = refl; word = refl };
+  atMost = omega arith;
+  writes = rw (ne-eqb (x .code) 9 (λ e. omega arith));
 }
 
--- the table of one record
 -- a record that is not answered, though there is space, has the code of its reading
 unread-code : (x : Reading) (z : Controller) (n p space : ℕ) → noSpace space ≡ false → stops (replayed x z n p space .ended) (replayed x z n p space .code) ≡ true → replayed x z n p space .code ≡ readingCode x
 unfolding replayed
@@ -118,6 +141,49 @@ unread-at : (z : Controller) (s : List ℕ) (p space : ℕ) → noSpace space �
 unfolding recordAt
 unread-at z s p space = unread-code (reading s p) z (length s) p space
 
+-- which case a reading is, from the tests in their order
+case-of : (e h t w b : Bool) (d : steps.Step) (q : ℕ)
+    → readingNumbers (pick e End (pick h (Malformed 6) (pick t (Malformed 7) (pick w (Malformed 8) (pick b (Malformed 6) (Found d q))))))
+    ≡ pick e (0 ∷ []) (pick (not h && not t && not w && not b) (2 ∷ q ∷ stepNumbers d) (1 ∷ readingCode (pick e End (pick h (Malformed 6) (pick t (Malformed 7) (pick w (Malformed 8) (pick b (Malformed 6) (Found d q)))))) ∷ []))
+case-of true h t w b d q = refl
+case-of false true t w b d q = refl
+case-of false false true w b d q = refl
+case-of false false false true b d q = refl
+case-of false false false false true d q = refl
+case-of false false false false false d q = refl
+
+code-of : (e h t w b : Bool) (d : steps.Step) (q : ℕ)
+    → readingCode (pick e End (pick h (Malformed 6) (pick t (Malformed 7) (pick w (Malformed 8) (pick b (Malformed 6) (Found d q))))))
+    ≡ pick e 0 (pick h 6 (pick t 7 (pick w 8 (pick b 6 0))))
+code-of true h t w b d q = refl
+code-of false true t w b d q = refl
+code-of false false true w b d q = refl
+code-of false false false true b d q = refl
+code-of false false false false true d q = refl
+code-of false false false false false d q = refl
+
+-- which case a reading is, and its code
+pub reading-codes : (s : List ℕ) (p : ℕ) → ReadingCodes s p
+unfolding reading
+reading-codes s p = record {
+  numbers = case-of (isEnd s p) (headerShort s p) (tagUnknown s p) (lengthWrong s p) (bodyShort s p) (stepAt s p) (behind s p);
+  code = code-of (isEnd s p) (headerShort s p) (tagUnknown s p) (lengthWrong s p) (bodyShort s p) (stepAt s p) (behind s p);
+}
+
+-- a reply that fits leaves the rest of its space
+pub overwrites : (r l : List ℕ) → length r ≤ length l → Overwrites r l (overwritten r l)
+overwrites r l h = record {
+  front = take-append-seam r (drop (length r) l);
+  rest = drop-append-seam r (drop (length r) l);
+  same = omega (arith, length-append r (drop (length r) l), length-drop (length r) l);
+}
+
+reply-fits : (b a : Bool) (r : List ℕ) (k m w space : ℕ) → ltb space 9 ≡ a → r ≡ pick (b || a) [] (reply k m w) → length r ≤ space
+unfolding reply
+reply-fits true a r k m w space h e = rw e (omega arith)
+reply-fits false true r k m w space h e = rw e (omega arith)
+reply-fits false false r k m w space h e = rw e (ltb-false space 9 h)
+
 pub record-codes : (z : Controller) (s : List ℕ) (p space : ℕ) → RecordCodes z s p space (recordAt z s p space)
 record-codes z s p space = record {
   ends = t .ends;
@@ -125,12 +191,18 @@ record-codes z s p space = record {
   code6 = t .code6;
   code7 = t .code7;
   code8 = t .code8;
-  unanswered = t .unanswered;
   unread = unread-at z s p space;
+  atEnd = t .atEnd;
+  stays = t .stays;
   answered = t .answered;
-  ownCode = t .ownCode;
+  atMost = t .atMost;
+  writes = t .writes;
+  untouched = λ l h. overwrites (replyOf r) l (rw h (reply-fits (isEnd s p) (noSpace space) (replyOf r) (r .code) (r .lines) (r .word) space refl (t .writes)));
 }
   where
+    r : Replayed
+    r = recordAt z s p space
+
     t : Table (isEnd s p) (noSpace space) (headerShort s p) (tagUnknown s p) (lengthWrong s p) (bodyShort s p) z (length s) p (step z (stepAt s p)) (behind s p) (recordAt z s p space)
     t = rw (record-in-order z s p space) (table (isEnd s p) (noSpace space) (headerShort s p) (tagUnknown s p) (lengthWrong s p) (bodyShort s p) z (length s) p (step z (stepAt s p)) (behind s p) (code-small z (stepAt s p)))
 
@@ -168,12 +240,33 @@ record-within z s p space h = go (look s p)
     go (wrong l) = h
     go (whole e q l m) = pick-cases (λ (r : Replayed). r .place ≤ length s) (ltb space 9) _ _ (λ _. h) (λ _. m)
 
+-- where a replay stops, and where it goes on
+stops-from : (e : Bool) (k : ℕ) → stops e k ≡ true → e ≡ false → 6 ≤ k
+stops-from true k h f = absurd (true≢false f)
+stops-from false k h f = leb-true 6 k (and-l (leb 6 k) (leb k 9) h)
+
+goes-below : (e : Bool) (k : ℕ) → k ≤ 9 → stops e k ≡ false → (e ≡ false) × (k ≤ 5)
+goes-below true k l h = absurd (true≢false h)
+goes-below false k l h = (refl, go (leb 6 k) refl)
+  where
+    go : (b : Bool) → leb 6 k ≡ b → k ≤ 5
+    go true e = absurd (true≢false (sym (rw (e, le-leb k 9 l)) ∙ h))
+    go false e = omega (arith, leb-false 6 k e)
+
 -- a record that is answered takes at least three bytes
 pub record-advances : (z : Controller) (s : List ℕ) (p space : ℕ) → stops (recordAt z s p space .ended) (recordAt z s p space .code) ≡ false → p + 3 ≤ recordAt z s p space .place
-record-advances z s p space h = rw (record-codes z s p space .answered h) (omega arith)
+record-advances z s p space h =
+    let c : RecordCodes z s p space (recordAt z s p space) = record-codes z s p space in
+    let g = goes-below (recordAt z s p space .ended) (recordAt z s p space .code) (c .atMost) h in
+    rw (c .answered (g .0) (g .1) .place) (omega arith)
 
 -- one that is not answered keeps the place
 pub stop-place : (z : Controller) (s : List ℕ) (p space : ℕ) → p ≤ length s → stops (recordAt z s p space .ended) (recordAt z s p space .code) ≡ true → recordAt z s p space .place ≡ p
-stop-place z s p space l h =
-    rw (record-codes z s p space .unanswered h)
-    (pick-cases (λ (r : Replayed). r .place ≡ p) (isEnd s p) _ _ (λ k. omega (arith, leb-true (length s) p k)) (λ _. refl))
+stop-place z s p space l h = go (isEnd s p) refl
+  where
+    c : RecordCodes z s p space (recordAt z s p space)
+    c = record-codes z s p space
+
+    go : (b : Bool) → isEnd s p ≡ b → recordAt z s p space .place ≡ p
+    go true e = omega (arith, c .atEnd (c .ends ∙ e) .1 .place, leb-true (length s) p e)
+    go false e = c .stays (c .ends ∙ e) (stops-from (recordAt z s p space .ended) (recordAt z s p space .code) h (c .ends ∙ e)) .place

@@ -23,6 +23,7 @@ use Rattle.model.proofs.BusErrors.{stored}
 use Rattle.model.proofs.Arrivals.{fmp-read, output-read}
 use Rattle.model.proofs.Waiting.{holds-reset}
 use Rattle.model.proofs.Timing.{run-timer}
+use Rattle.model.proofs.MailboxTimes.{time-read}
 use Rattle.model.proofs.ErrorCounting.{run-counts, reset-counts, esr-fields}
 
 -- ---- reads
@@ -65,6 +66,7 @@ tied l h =
       rdt = λ f. output-words f z .rdt ∙ ap (λ (x : StoredFrame). x .rdt) (o f);
       rdl = λ f. output-words f z .rdl ∙ ap (λ (x : StoredFrame). x .rdl) (o f);
       rdh = λ f. output-words f z .rdh ∙ ap (λ (x : StoredFrame). x .rdh) (o f);
+      time = λ m. time-read m l h;
       tecField = ap (λ (w : ℕ). bits 16 8 w) (esr-read z) ∙ (r .tec ∙ ap (λ (n : ℕ). n % 256) t);
       boff = ap (λ (w : ℕ). bit 2 w) (esr-read z) ∙ (r .boff ∙ ap (λ (n : ℕ). ltb 255 n) t);
       rec = ap (λ (w : ℕ). bits 24 8 w) (esr-read z) ∙ (r .rec ∙ ap (λ (a : ErrorCounts). a .rec) c);

@@ -24,6 +24,7 @@ use Rattle.model.specs.declared.Register.the-variants.{Mcr, Msr, Tsr, Rf
 use Rattle.model.specs.declared.Step as steps
 use Rattle.model.specs.declared.Step.the-variants.{Reset, Read, Write, Idle, BitTimes, Activity, Start, Outcome, Receive, ReceiveError}
 use Rattle.model.proofs.Choices.{Is, Not}
+use Rattle.model.proofs.BusErrors.{and-true}
 use Rattle.model.proofs.HistoryReads.{code-is, mcr-read, normal-read}
 use Rattle.model.proofs.Reached.{step-in-range}
 
@@ -90,10 +91,6 @@ applied-timer c b (Read o) l h = still (isNormal (c .control .mode)) (c .control
 applied-timer c b (Write o w) l h = written-timer (registerAt o) c w h ∙ still (isNormal (c .control .mode)) (c .control .timer) l
 applied-timer c b Idle l h = still (isNormal (c .control .mode)) (c .control .timer) l
 applied-timer c b (BitTimes n) l h = rw (h, and-true (isNormal (c .control .mode)))
-  where
-    and-true : (x : Bool) → (x && true) ≡ x
-    and-true true = refl
-    and-true false = refl
 applied-timer c b Activity l h = still (isNormal (c .control .mode)) (c .control .timer) l
 applied-timer c b Start l h = start-timer _ c ∙ still (isNormal (c .control .mode)) (c .control .timer) l
 applied-timer c b (Outcome r) l h = end-timer (c .transmit .queue .transmitting) c b r ∙ still (isNormal (c .control .mode)) (c .control .timer) l

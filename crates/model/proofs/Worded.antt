@@ -5,21 +5,18 @@ use Prim.Native.Nat.{ℕ, zero, suc, _+_, _≤_}
 use native.Mathlib.Omega.{arith}
 use lib.Dec.{eqb}
 use Rattle.model.specs.Base.{bit}
-use Rattle.model.specs.Queue.{number, numbered, senderNumber, isNobody}
+use Rattle.model.specs.Queue.{number, numbered, isNobody}
 use Rattle.model.specs.Mailboxes.{firstOf}
 use Rattle.model.specs.Control.{txfp}
 use Rattle.model.specs.Step.{step, answered, wordOf, refusal}
 use Rattle.model.specs.Requests.{starts, event, entry}
 use Rattle.model.specs.Codes.{offsetOf, shown, txm, tme, isReadOrStart, Words}
 use Rattle.model.specs.declared.Mailbox.{Mailbox}
-use Rattle.model.specs.declared.Mailbox.the-variants.{M0, M1, M2}
-use Rattle.model.specs.declared.Sender.{Sender}
-use Rattle.model.specs.declared.Sender.the-variants.{Nobody, From}
 use Rattle.model.specs.declared.Controller.{Controller}
 use Rattle.model.specs.declared.Register.the-variants.{Tsr}
 use Rattle.model.specs.declared.Step as steps
 use Rattle.model.specs.declared.Step.the-variants.{Reset, Read, Write, Idle, BitTimes, Activity, Start, Outcome, Receive, ReceiveError}
-use Rattle.model.proofs.ReadFields.{txm-read, tme-read}
+use Rattle.model.proofs.ReadFields.{sender-small, txm-read, tme-read}
 use Rattle.model.proofs.Choices.{pick-cases}
 use Rattle.model.proofs.Views.{View, viewNext, Granted}
 use Rattle.model.proofs.Follows.{viewOf, follows}
@@ -36,12 +33,6 @@ no-word z Start h = absurd (true≢false h)
 no-word z (Outcome r) h = refl
 no-word z (Receive x) h = refl
 no-word z (ReceiveError k n) h = refl
-
-sender-small : (v : Sender) → senderNumber v ≤ 2
-sender-small Nobody = omega arith
-sender-small (From M0) = omega arith
-sender-small (From M1) = omega arith
-sender-small (From M2) = omega arith
 
 number-numbered : (n : ℕ) → n ≤ 2 → number (numbered n) ≡ n
 number-numbered zero h = refl

@@ -11,6 +11,7 @@ use Rattle.model.specs.Fairness.{Fairness, requestsFrom}
 use Rattle.model.specs.Reachable.{InRange, StepsRange}
 use Rattle.model.specs.History.{Tied}
 use Rattle.model.specs.Script.{replay, stepsOf}
+use Rattle.model.specs.Records.{Bytes}
 use Rattle.model.specs.Scripts.{answeredSteps}
 use Rattle.model.specs.declared.Mailbox.the-variants.{M0, M1, M2}
 use Rattle.model.specs.declared.Controller.{Controller}
@@ -44,10 +45,6 @@ pub record OfCallers (l : List steps.Step) : Type 0 where
   pub fair : Fairness reset noneYet l
 
 -- ---- scripts
-
-abbrev pub Bytes : List ℕ → Type 0
-Bytes [] = Unit {0}
-Bytes (b ∷ s) = (b < 256) × Bytes s
 
 -- a script of bytes, from hardware reset, with any reply space: its steps are such as callers give
 pub record OfScripts (s : List ℕ) (space : ℕ) : Type 0 where

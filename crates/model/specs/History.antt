@@ -1,4 +1,5 @@
--- What a FIFO holds, the error counters and the recovery count, worked out from the history of steps and not from what is stored.
+-- What a FIFO holds, the timer and TIME, the error counters and the recovery count, worked out from the history of steps: from the
+-- steps, their codes, a start's word and what registers read before and after a step. No field of the state goes in.
 -- Document 01: "How far each contract reaches" (FMP, TEC and idle counts are tied to stored frames and events).
 use mathlib.Core.Bool.{Bool, false, not, _&&_, _||_}
 use mathlib.Core.List.{List, [], _∷_, _++_}
@@ -10,7 +11,7 @@ use Rattle.model.specs.Base.{pick, bit, bits}
 use Rattle.model.specs.Queue.{number}
 use Rattle.model.specs.Mailboxes.{sentIdentifier}
 use Rattle.model.specs.Search.{acceptance}
-use Rattle.model.specs.Reception.{noFrame, storedFrame}
+use Rattle.model.specs.Reception.{storedFrame}
 use Rattle.model.specs.Registers.{bankCount}
 use Rattle.model.specs.Step.{step}
 use Rattle.model.specs.Requests.{Requests, noneYet, next, event, entry, after}
@@ -62,6 +63,28 @@ timerNext t z s = pick (bit 7 (shown (step z s .controller) 0x000)) (pick (isDon
 unfoldable pub timerFrom : ℕ → Controller → List steps.Step → ℕ
 timerFrom t z [] = t
 timerFrom t z (s ∷ l) = timerFrom (timerNext t z s) (step z s .controller) l
+
+-- ---- the TIME of a mailbox: what TDT was written with, and from a start on the timer; a start's word is the mailbox
+
+-- t: the timer
+abbrev pub timeAfter : Mailbox → ℕ → ℕ → steps.Step → ℕ → ℕ
+timeAfter m x t Reset word = 0
+timeAfter m x t (Read o) word = x
+timeAfter m x t (Write o w) word = pick (eqb o (0x184 + 0x10 * number m)) (bits 16 16 w) x
+timeAfter m x t Idle word = x
+timeAfter m x t (BitTimes n) word = x
+timeAfter m x t Activity word = x
+timeAfter m x t Start word = pick (eqb word (number m)) t x
+timeAfter m x t (Outcome r) word = x
+timeAfter m x t (Receive y) word = x
+timeAfter m x t (ReceiveError k n) word = x
+
+abbrev pub timeNext : Mailbox → ℕ → ℕ → Controller → steps.Step → ℕ
+timeNext m x t z s = pick (isDone z s) (timeAfter m x t s (step z s .word)) x
+
+unfoldable pub timeFrom : Mailbox → ℕ → ℕ → Controller → List steps.Step → ℕ
+timeFrom m x t z [] = x
+timeFrom m x t z (s ∷ l) = timeFrom m (timeNext m x t z s) (timerNext t z s) (step z s .controller) l
 
 -- ---- the frames that wait in a FIFO
 
@@ -135,8 +158,8 @@ waitingNext l empties = []
 waitingNext l releases = withoutOldest l
 waitingNext l (arrives x locked) = pick (ltb (length l) 3) (l ++ x ∷ []) (pick locked l (take 2 l ++ x ∷ []))
 
--- the frames that wait after a list of steps, the oldest first; before it the frames l wait, the timer is t and b are the requests,
--- of which the observer of the requests knows the one on the wire
+-- the frames that wait after a list of steps, the oldest first; before it the frames l wait, the timer is t, and b is what the
+-- observer of the requests knows: the mailbox on the wire
 unfoldable pub waitingFrom : Fifo → List StoredFrame → ℕ → Requests → Controller → List steps.Step → List StoredFrame
 waitingFrom f l t b z [] = l
 waitingFrom f l t b z (s ∷ r) =
@@ -144,7 +167,7 @@ waitingFrom f l t b z (s ∷ r) =
 
 -- what the output shows: the oldest frame, zeros where none waits
 abbrev pub oldestFrame : List StoredFrame → StoredFrame
-oldestFrame [] = noFrame
+oldestFrame [] = record { ri = 0; rdt = 0; rdl = 0; rdh = 0 }
 oldestFrame (x ∷ l) = x
 
 -- ---- the error counters and the recovery count
@@ -164,7 +187,7 @@ noErrors = record { tec = 0; rec = 0; lec = 0; idles = 0; reinitialized = false 
 abbrev pub isBusOff : ErrorCounts → Bool
 isBusOff a = ltb 255 (a .tec)
 
--- what is seen of a step beside the step itself
+-- what the counting sees of a step beside the step itself
 pub record Seen : Type 0 where
   -- its code is 0
   pub done : Bool
@@ -182,10 +205,11 @@ seen z s = record {
   enters = not (bit 0 (shown z 0x004)) && bit 0 (shown (step z s .controller) 0x004);
 }
 
--- TEC, REC and LEC become t, r and l. Bus-off zeroes the count, and Initialization has not been entered since
+-- TEC becomes t
 abbrev pub startsBusOff : ErrorCounts → ℕ → Bool
 startsBusOff a t = not (isBusOff a) && ltb 255 t
 
+-- TEC, REC and LEC become t, r and l. Bus-off zeroes the count, and Initialization has not been entered since
 abbrev pub countersBecome : ErrorCounts → ℕ → ℕ → ℕ → ErrorCounts
 countersBecome a t r l = record {
   tec = t;
@@ -195,7 +219,7 @@ countersBecome a t r l = record {
   reinitialized = a .reinitialized && not (startsBusOff a t);
 }
 
--- MCR with bit 15 set: recovery count 0, the rest stays. ESR: LEC becomes 7 if the bits written are 7
+-- MCR with bit 15 set: recovery count 0, the rest stays, also whether Initialization was entered. ESR: LEC becomes 7 if the bits written are 7
 abbrev pub writeCounted : ErrorCounts → ℕ → ℕ → ErrorCounts
 writeCounted a o w = record {
   tec = a .tec;
@@ -238,7 +262,7 @@ stepCounted a v (Outcome r) = endCounted a r
 stepCounted a v (Receive x) = countersBecome a (a .tec) (pick (ltb 128 (a .rec)) 120 (a .rec - 1)) 0
 stepCounted a v (ReceiveError k n) = countersBecome a (a .tec) (pick (ltb 255 (a .rec + n)) 255 (a .rec + n)) k
 
--- entering Initialization zeroes the count, and in bus-off lets the recovery begin
+-- entering Initialization zeroes the count, and in bus-off lets the recovery begin, also in the very step that makes it bus-off
 abbrev pub initializationEntered : Bool → ErrorCounts → ErrorCounts
 initializationEntered b a = record {
   tec = a .tec;
@@ -260,6 +284,9 @@ countsFrom a z (s ∷ l) = countsFrom (countsNext a (seen z s) s) (step z s .con
 abbrev pub frames : Fifo → Controller → List steps.Step → List StoredFrame
 frames f z l = waitingFrom f [] 0 noneYet z l
 
+abbrev pub timeAt : Mailbox → Controller → List steps.Step → ℕ
+timeAt m z l = timeFrom m 0 0 z l
+
 abbrev pub timerAt : Controller → List steps.Step → ℕ
 timerAt z l = timerFrom 0 z l
 
@@ -276,6 +303,8 @@ pub record Tied (z : Controller) (l : List steps.Step) : Type 0 where
   pub rdt : (f : Fifo) → readAfter z l (0x1B4 + 0x10 * fifoNumber f) ≡ oldestFrame (frames f z l) .rdt
   pub rdl : (f : Fifo) → readAfter z l (0x1B8 + 0x10 * fifoNumber f) ≡ oldestFrame (frames f z l) .rdl
   pub rdh : (f : Fifo) → readAfter z l (0x1BC + 0x10 * fifoNumber f) ≡ oldestFrame (frames f z l) .rdh
+  -- TIME in TDT is what was written, or the timer at the last start
+  pub time : (m : Mailbox) → bits 16 16 (readAfter z l (0x184 + 0x10 * number m)) ≡ timeAt m z l
   -- in ESR: the low byte of TEC, BOFF, REC and LEC are what the events say
   pub tecField : bits 16 8 (readAfter z l 0x018) ≡ errorCounts z l .tec % 256
   pub boff : bit 2 (readAfter z l 0x018) ≡ isBusOff (errorCounts z l)

@@ -10,6 +10,7 @@ pub mod Step
 pub mod Requests
 pub mod Fairness
 pub mod Script
+pub mod Records
 pub mod Scripts
 pub mod Reachable
 pub mod Codes

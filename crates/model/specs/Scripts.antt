@@ -7,13 +7,15 @@ use Prim.Native.Nat.{ℕ, zero, suc, _+_, _-_, _*_, _/_, _≤_}
 use lib.Dec.{eqb, ltb, leb}
 use lib.ListN.{length, take, drop}
 use Rattle.model.specs.Base.{pick}
-use Rattle.model.specs.Step.{step}
+use Rattle.model.specs.Step.{step, linesOf}
 use Rattle.model.specs.Requests.{after}
-use Rattle.model.specs.Script.{byteAt, number16, isTag, bodyLength, decoded, part, reading, stayed, atEnd, passed, recordAt, replyOf, stops, Progress, begun, advanced, times, replay, stepsOf, repliesTo, readingCode}
+use Rattle.model.specs.Script.{byteAt, number16, isTag, bodyLength, decoded, part, reading, reply, recordAt, replyOf, overwritten, stops, Progress, begun, advanced, times, replay, stepsOf, repliesTo, readingCode}
+use Rattle.model.specs.Records.{stepNumbers, readingNumbers}
 use Rattle.model.specs.declared.Controller.{Controller}
 use Rattle.model.specs.declared.Reading.{Reading}
 use Rattle.model.specs.declared.Reading.the-variants.{End, Malformed, Found}
 use Rattle.model.specs.declared.Replayed.{Replayed}
+use Rattle.model.specs.declared.Stepped.{Stepped}
 use Rattle.model.specs.declared.Replay as replays
 use Rattle.model.specs.declared.Step as steps
 
@@ -50,18 +52,54 @@ behind s p = p + 3 + bodyLength (byteAt s p)
 abbrev pub stepAt : List ℕ → ℕ → steps.Step
 stepAt s p = decoded (byteAt s p) (part s (p + 3) (behind s p))
 
--- the end mark and the codes 6 to 9, each exactly when; there nothing changes and the place stays, at the end it is the
--- script's length; else the answer is that of the record's step, the code at most 5
+-- a record that can be read
+abbrev pub isWhole : List ℕ → ℕ → Bool
+isWhole s p = not (headerShort s p) && not (tagUnknown s p) && not (lengthWrong s p) && not (bodyShort s p)
+
+-- what stands at a place, as numbers; the first thing that is wrong with it gives its code
+pub record ReadingCodes (s : List ℕ) (p : ℕ) : Type 0 where
+  pub numbers : readingNumbers (reading s p) ≡ pick (isEnd s p) (0 ∷ []) (pick (isWhole s p) (2 ∷ behind s p ∷ stepNumbers (stepAt s p)) (1 ∷ readingCode (reading s p) ∷ []))
+  pub code : readingCode (reading s p) ≡ pick (isEnd s p) 0 (pick (headerShort s p) 6 (pick (tagUnknown s p) 7 (pick (lengthWrong s p) 8 (pick (bodyShort s p) 6 0))))
+
+-- ---- one record: what it gives
+
+-- the controller as it was, this place, the lines of that state, the word 0
+pub record Unchanged (z : Controller) (p : ℕ) (r : Replayed) : Type 0 where
+  pub controller : r .controller ≡ z
+  pub place : r .place ≡ p
+  pub lines : r .lines ≡ linesOf (z .core)
+  pub word : r .word ≡ 0
+
+-- what a step gave, at this place
+pub record Answers (a : Stepped) (p : ℕ) (r : Replayed) : Type 0 where
+  pub controller : r .controller ≡ a .controller
+  pub place : r .place ≡ p
+  pub code : r .code ≡ a .code
+  pub lines : r .lines ≡ a .lines
+  pub word : r .word ≡ a .word
+
+-- a reply r in a reply space l gives o: the bytes past it are untouched
+pub record Overwrites (r l o : List ℕ) : Type 0 where
+  pub front : take (length r) o ≡ r
+  pub rest : drop (length r) o ≡ drop (length r) l
+  pub same : length o ≡ length l
+
+-- the end mark and the codes 6 to 9, each exactly when; at the end code 0, and the place is the script's length; for 6 to 9 the
+-- place stays; for both nothing changes; else the answer is that of the record's step, the code at most 5. Nothing is written at
+-- the end and for code 9
 pub record RecordCodes (z : Controller) (s : List ℕ) (p space : ℕ) (r : Replayed) : Type 0 where
   pub ends : r .ended ≡ isEnd s p
   pub code9 : eqb (r .code) 9 ≡ (not (isEnd s p) && noSpace space)
   pub code6 : eqb (r .code) 6 ≡ (answerable s p space && (headerShort s p || (not (tagUnknown s p) && not (lengthWrong s p) && bodyShort s p)))
   pub code7 : eqb (r .code) 7 ≡ (answerable s p space && not (headerShort s p) && tagUnknown s p)
   pub code8 : eqb (r .code) 8 ≡ (answerable s p space && not (headerShort s p) && not (tagUnknown s p) && lengthWrong s p)
-  pub unanswered : stops (r .ended) (r .code) ≡ true → r ≡ pick (isEnd s p) (atEnd z (length s)) (stayed z p (r .code))
   pub unread : noSpace space ≡ false → stops (r .ended) (r .code) ≡ true → r .code ≡ readingCode (reading s p)
-  pub answered : stops (r .ended) (r .code) ≡ false → r ≡ passed (step z (stepAt s p)) (behind s p)
-  pub ownCode : stops (r .ended) (r .code) ≡ false → r .code ≤ 5
+  pub atEnd : r .ended ≡ true → (r .code ≡ 0) × Unchanged z (length s) r
+  pub stays : r .ended ≡ false → 6 ≤ r .code → Unchanged z p r
+  pub answered : r .ended ≡ false → r .code ≤ 5 → Answers (step z (stepAt s p)) (behind s p) r
+  pub atMost : r .code ≤ 9
+  pub writes : replyOf r ≡ pick (isEnd s p || noSpace space) [] (reply (r .code) (r .lines) (r .word))
+  pub untouched : (l : List ℕ) → length l ≡ space → Overwrites (replyOf r) l (overwritten (replyOf r) l)
 
 -- ---- a whole script
 

@@ -7,6 +7,11 @@ use Rattle.model.specs.Base.{pick}
 use Rattle.starvation.specs.declared.number.Numeral.{Numeral}
 use Rattle.starvation.specs.declared.number.Numeral.the-variants.{Number, Bad}
 
+-- the cases as numbers: 0 no number; 1 a number, and which
+abbrev pub numeralNumbers : Numeral → List ℕ
+numeralNumbers Bad = 0 ∷ []
+numeralNumbers (Number n) = 1 ∷ n ∷ []
+
 -- 48 is the digit 0, 57 the digit 9
 unfoldable pub withDigit : ℕ → ℕ → Numeral
 withDigit n c =
