@@ -10,6 +10,13 @@ pub mod Starve
 pub mod Mapped
 pub mod Coded
 pub mod Worded
+pub mod ShownWords
+pub mod WriteTargets
+pub mod LineFlags
+pub mod DoneSteps
+pub mod ErrorRules
+pub mod ModeRules
+pub mod FifoRules
 pub mod Waiting
 pub mod Digits
 pub mod Numbering

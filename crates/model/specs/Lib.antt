@@ -14,6 +14,11 @@ pub mod Records
 pub mod Scripts
 pub mod Reachable
 pub mod Codes
+pub mod Shown
+pub mod Interrupts
+pub mod ErrorFlags
+pub mod Modes
+pub mod Fifos
 pub mod History
 pub mod Anywhere
 pub mod Filtering

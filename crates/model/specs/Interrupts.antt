@@ -1,0 +1,31 @@
+-- The interrupt lines, of what registers show: a line is up exactly when a flag of its list is up with its enable in IER.
+-- Document 01: "Bus events" (last paragraph). Bit places are those of 000.
+use mathlib.Core.Bool.{not, _&&_, _||_}
+use mathlib.Core.Path.{_≡_}
+use Prim.Native.Nat.{ℕ, _+_, _*_, _<_}
+use lib.Dec.{eqb}
+use Rattle.model.specs.Base.{bit, bits}
+use Rattle.model.specs.Step.{step}
+use Rattle.model.specs.Codes.{fifoNumber}
+use Rattle.model.specs.Shown.{msr, tsr, rfr, ier, nextOf}
+use Rattle.model.specs.declared.Fifo.{Fifo}
+use Rattle.model.specs.declared.Controller.{Controller}
+use Rattle.model.specs.declared.Step as steps
+
+-- n holds the lines of the state z
+pub record Lines (z : Controller) (n : ℕ) : Type 0 where
+  -- TMEIE with RQCP of any mailbox
+  pub transmit : bit 0 n ≡ bit 0 (ier z) && (bit 0 (tsr z) || bit 8 (tsr z) || bit 16 (tsr z))
+  -- FMPIE with FMP not 0, FFIE with FULL, FOVIE with FOVR
+  pub fifo : (f : Fifo)
+      → bit (1 + fifoNumber f) n
+      ≡ (bit (1 + 3 * fifoNumber f) (ier z) && not (eqb (bits 0 2 (rfr f z)) 0))
+      || (bit (2 + 3 * fifoNumber f) (ier z) && bit 3 (rfr f z))
+      || (bit (3 + 3 * fifoNumber f) (ier z) && bit 4 (rfr f z))
+  -- ERRIE with ERRI, WKUIE with WKUI, SLKIE with SLAKI
+  pub status : bit 3 n ≡ (bit 15 (ier z) && bit 2 (msr z)) || (bit 16 (ier z) && bit 3 (msr z)) || (bit 17 (ier z) && bit 4 (msr z))
+  pub four : n < 16
+
+-- every step, refused or accepted, answers with the lines of the state after it
+pub record Interrupts (z : Controller) (s : steps.Step) : Type 0 where
+  pub lines : Lines (nextOf z s) (step z s .lines)
