@@ -50,3 +50,12 @@ pub mod BusErrors
 pub mod HistoryReads
 pub mod Timing
 pub mod MailboxTimes
+pub mod MaskedBits
+pub mod RegisterAccess
+pub mod ReadsBack
+pub mod StatusWord
+pub mod WordsKept
+pub mod WireBits
+pub mod Arbitrated
+pub mod StatusShown
+pub mod StatusSteps

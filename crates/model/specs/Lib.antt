@@ -23,3 +23,7 @@ pub mod History
 pub mod Anywhere
 pub mod Filtering
 pub mod Examples
+pub mod ReadBack
+pub mod MailboxWords
+pub mod Arbitration
+pub mod TransmitStatus

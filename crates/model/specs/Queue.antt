@@ -2,6 +2,7 @@
 -- Document 01: "Register map" (TSR, TI with TXRQ), "Bus events" (start, own end). 01 says "on the wire" for transmitting,
 -- "own end" for the outcome of a transmission, "request order" for the order.
 use mathlib.Core.Bool.{Bool, true, false, not, _&&_, _||_}
+use mathlib.Core.List.{List, [], _∷_}
 use Prim.Native.Nat.{ℕ}
 use lib.Dec.{eqb}
 use Rattle.model.specs.Base.{pick}
@@ -88,6 +89,13 @@ isEmpty (One a) = false
 isEmpty (Two a b) = false
 isEmpty (Three a b c) = false
 
+-- the numbers of the mailboxes that are not empty, in the order of their requests
+abbrev pub orderNumbers : RequestOrder → List ℕ
+orderNumbers Empty = []
+orderNumbers (One a) = number a ∷ []
+orderNumbers (Two a b) = number a ∷ number b ∷ []
+orderNumbers (Three a b c) = number a ∷ number b ∷ number c ∷ []
+
 -- two or more mailboxes are not empty
 abbrev pub twoOrMore : RequestOrder → Bool
 twoOrMore Empty = false
@@ -109,6 +117,11 @@ isNobody (From a) = false
 abbrev pub senderNumber : Sender → ℕ
 senderNumber Nobody = 0
 senderNumber (From m) = number m
+
+-- the number of a mailbox, if there is one; it tells nobody apart from mailbox 0
+abbrev pub senderNumbers : Sender → List ℕ
+senderNumbers Nobody = []
+senderNumbers (From m) = number m ∷ []
 
 -- the order without the mailbox that is transmitting
 abbrev pub besides : Sender → RequestOrder → RequestOrder

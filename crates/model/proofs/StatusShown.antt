@@ -1,0 +1,144 @@
+-- What TSR shows: the flags of each mailbox, CODE, TME and LOW.
+use mathlib.Core.Bool.{Bool, true, false, not, _&&_, _||_, Bool·beq, true≢false, false≢true}
+use mathlib.Core.List.{List, [], _∷_}
+use mathlib.Core.Path.{_≡_, refl, sym, ap, _∙_}
+use Prim.Native.Nat.{ℕ, _+_, _*_, _<_, _≤_}
+use native.Mathlib.Omega.{arith}
+use lib.Dec.{eqb}
+use lib.ListN.{length}
+use Rattle.model.specs.Base.{pick, bit, bits}
+use Rattle.model.specs.Queue.{number, same, flag, holds, without, isFrom, isEmpty, twoOrMore, besides, senderNumber, orderNumbers, senderNumbers}
+use Rattle.model.specs.Mailboxes.{at, identifiers, lastOf, tme, low, code, tsr}
+use Rattle.model.specs.Control.{txfp}
+use Rattle.model.specs.Reachable.{distinct, InRange}
+use Rattle.model.specs.ReadBack.{reads}
+use Rattle.model.specs.Arbitration.{requests, onWire, has, isPending, IsLast, Names}
+use Rattle.model.specs.TransmitStatus.{statusBit, rqcpOf, txokOf, alstOf, terrOf, abrqOf, codeOf, tmeOf, lowOf, StatusWord}
+use Rattle.model.specs.declared.Mailbox.{Mailbox}
+use Rattle.model.specs.declared.Mailbox.the-variants.{M0, M1, M2}
+use Rattle.model.specs.declared.Sender.{Sender}
+use Rattle.model.specs.declared.Sender.the-variants.{Nobody, From}
+use Rattle.model.specs.declared.RequestOrder.{RequestOrder}
+use Rattle.model.specs.declared.RequestOrder.the-variants.{Empty, One, Two, Three}
+use Rattle.model.specs.declared.Transmit.{Transmit}
+use Rattle.model.specs.declared.Controller.{Controller}
+use Rattle.model.proofs.Choices.{Is, imp, imp-Is, not-Is, Is-not, and-l, and-r, beq-eq}
+use Rattle.model.proofs.Orders.{each, same-eq}
+use Rattle.model.proofs.RegisterAccess.{Somebody}
+use Rattle.model.proofs.StatusWord.{Status, bits-of, code-bits}
+use Rattle.model.proofs.WordsKept.{tsr-read}
+use Rattle.model.proofs.Arbitrated.{has-order, same-self, besides-held, last-somebody, is-last, last-unique, waiting-by}
+
+-- ---- the flags
+
+pub record Shown (z : Controller) (m : Mailbox) : Type 0 where
+  pub rqcp : rqcpOf z m ≡ at (z .core .transmit .mailboxes) m .rqcp
+  pub txok : txokOf z m ≡ at (z .core .transmit .mailboxes) m .txok
+  pub alst : alstOf z m ≡ at (z .core .transmit .mailboxes) m .alst
+  pub terr : terrOf z m ≡ at (z .core .transmit .mailboxes) m .terr
+  pub abrq : abrqOf z m ≡ flag (z .core .transmit .queue .aborts) m
+  pub tme : tmeOf z m ≡ not (holds (z .core .transmit .queue .order) m)
+  pub low : lowOf z m ≡ low (txfp (z .core .control)) (z .core .transmit) m
+  pub reserved : (statusBit 4 z m ≡ false) × (statusBit 5 z m ≡ false) × (statusBit 6 z m ≡ false)
+
+pub shown : (z : Controller) (m : Mailbox) → Shown z m
+shown z m =
+    let s = bits-of (txfp (z .core .control)) (z .core .transmit) m in
+    let e = tsr-read z in
+    record {
+      rqcp = ap (λ (w : ℕ). bit (8 * number m + 0) w) e ∙ s .rqcp;
+      txok = ap (λ (w : ℕ). bit (8 * number m + 1) w) e ∙ s .txok;
+      alst = ap (λ (w : ℕ). bit (8 * number m + 2) w) e ∙ s .alst;
+      terr = ap (λ (w : ℕ). bit (8 * number m + 3) w) e ∙ s .terr;
+      abrq = ap (λ (w : ℕ). bit (8 * number m + 7) w) e ∙ s .abrq;
+      tme = ap (λ (w : ℕ). bit (26 + number m) w) e ∙ s .tme;
+      low = ap (λ (w : ℕ). bit (29 + number m) w) e ∙ s .low;
+      reserved = (ap (λ (w : ℕ). bit (8 * number m + 4) w) e ∙ s .bit4, ap (λ (w : ℕ). bit (8 * number m + 5) w) e ∙ s .bit5, ap (λ (w : ℕ). bit (8 * number m + 6) w) e ∙ s .bit6);
+    }
+
+code-shown : (z : Controller) → codeOf z ≡ code (txfp (z .core .control)) (z .core .transmit)
+code-shown z = ap (λ (w : ℕ). bits 24 2 w) (tsr-read z) ∙ code-bits (txfp (z .core .control)) (z .core .transmit)
+
+-- ---- who is left besides the one on the wire
+
+pub from-is : (v : Sender) (m : Mailbox) → isFrom v m ≡ true → v ≡ From m
+from-is Nobody m h = absurd (false≢true h)
+from-is (From a) m h = ap From (same-eq a m h)
+
+held-some : (o : RequestOrder) (m : Mailbox) → holds o m ≡ true → isEmpty o ≡ false
+held-some o m h = Is-not _ (imp-Is (each (λ o m x y. imp (holds o m) (not (isEmpty o))) refl o m m m) h)
+
+-- of three at least two are not on the wire
+three-some : (v : Sender) (o : RequestOrder) → holds o M0 ≡ true → holds o M1 ≡ true → holds o M2 ≡ true → isEmpty (besides v o) ≡ false
+three-some Nobody o a b c = held-some o M0 a
+three-some (From y) o a b c = Is-not _ (imp-Is (imp-Is (imp-Is (each (λ o y m x. imp (holds o M0) (imp (holds o M1) (imp (holds o M2) (not (isEmpty (without o y)))))) refl o y y y) a) b) c)
+
+not-false : (b : Bool) → not b ≡ false → b ≡ true
+not-false true h = refl
+not-false false h = absurd (true≢false h)
+
+not-true : (b : Bool) → not b ≡ true → b ≡ false
+not-true b h = Is-not b h
+
+two-long : (o : RequestOrder) → twoOrMore o ≡ true → 2 ≤ length (orderNumbers o)
+two-long Empty h = absurd (false≢true h)
+two-long (One a) h = absurd (false≢true h)
+two-long (Two a b) h = omega arith
+two-long (Three a b c) h = omega arith
+
+long-two : (o : RequestOrder) → 2 ≤ length (orderNumbers o) → twoOrMore o ≡ true
+long-two Empty h = absurd (let n : 2 ≤ 0 = h in omega arith)
+long-two (One a) h = absurd (let n : 2 ≤ 1 = h in omega arith)
+long-two (Two a b) h = refl
+long-two (Three a b c) h = refl
+
+-- ---- the word
+
+module _ (z : Controller) (i : InRange z) where
+  abbrev t : Transmit
+  t = z .core .transmit
+
+  abbrev p : Bool
+  p = txfp (z .core .control)
+
+  d : distinct (t .queue .order) ≡ true
+  d = i .core .transmit .queue .once
+
+  lowest-empty : (m : Mailbox) → tme t m ≡ true → ((x : Mailbox) → number x < number m → tme t x ≡ false) → code p t ≡ number m
+  unfolding code
+  lowest-empty M0 h f = rw h
+  lowest-empty M1 h f = rw (f M0 (omega arith), h)
+  lowest-empty M2 h f = rw (f M0 (omega arith), f M1 (omega arith), h)
+
+  none-empty : ((x : Mailbox) → tme t x ≡ false) → Names (IsLast z) (code p t)
+  unfolding code
+  none-empty f =
+      let s = last-somebody p (identifiers (t .mailboxes)) (besides (t .queue .transmitting) (t .queue .order))
+      (three-some (t .queue .transmitting) (t .queue .order) (not-false _ (f M0)) (not-false _ (f M1)) (not-false _ (f M2))) in
+      record { mailbox = s .mailbox; named = rw (f M0, f M1, f M2, s .is); meets = is-last z d (s .mailbox) (s .is) }
+
+  shows-last : (m : Mailbox) → low p t m ≡ true → (2 ≤ length (requests z)) × IsLast z m
+  unfolding low
+  shows-last m h = (
+    two-long (t .queue .order) (and-l (twoOrMore (t .queue .order)) (isFrom (lastOf p t) m) h),
+    is-last z d m (from-is (lastOf p t) m (and-r (twoOrMore (t .queue .order)) (isFrom (lastOf p t) m) h)),
+  )
+
+  last-shown : (m : Mailbox) → 2 ≤ length (requests z) → IsLast z m → low p t m ≡ true
+  unfolding low
+  last-shown m n l =
+      let s = last-somebody p (identifiers (t .mailboxes)) (besides (t .queue .transmitting) (t .queue .order))
+      (held-some (besides (t .queue .transmitting) (t .queue .order)) m (sym (waiting-by z d m) ∙ l .pending)) in
+      let e : s .mailbox ≡ m = last-unique z d (s .mailbox) m (is-last z d (s .mailbox) (s .is)) l in
+      rw (long-two (t .queue .order) n, s .is, e) (same-self m)
+
+  pub status-word : (m : Mailbox) → StatusWord z m
+  status-word m = record {
+    tme = shown z m .tme ∙ ap not (sym (has-order (t .queue .order) m));
+    codeEmpty = λ h f. code-shown z ∙ lowest-empty m (sym (shown z m .tme) ∙ h) (λ x l. sym (shown z x .tme) ∙ f x l);
+    codeFull = λ f. rw (code-shown z) (none-empty (λ x. sym (shown z x .tme) ∙ f x));
+    low = λ h. shows-last m (sym (shown z m .low) ∙ h);
+    lowest = λ n l. shown z m .low ∙ last-shown m n l;
+    abrq = λ h. ap senderNumbers (from-is (t .queue .transmitting) m (i .core .transmit .queue .aborts m (sym (shown z m .abrq) ∙ h)));
+    reserved = shown z m .reserved;
+  }

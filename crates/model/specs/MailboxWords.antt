@@ -1,0 +1,49 @@
+-- The words of a mailbox read back, and what else changes them.
+-- Document 01: "Register map" (TI, TDT, TDL, TDH; writable bits), "Bus events" (start).
+use mathlib.Core.Bool.{Bool, true, false, not, _&&_}
+use mathlib.Core.Path.{_≡_}
+use Prim.Native.Nat.{ℕ, _+_}
+use lib.Dec.{eqb}
+use Rattle.model.specs.Base.{bit, bits}
+use Rattle.model.specs.Queue.{number}
+use Rattle.model.specs.Step.{step}
+use Rattle.model.specs.ReadBack.{reads, Accepts, afterWrite, Within, sets, Stays}
+use Rattle.model.specs.Reachable.{InRange}
+use Rattle.model.specs.declared.Mailbox.{Mailbox}
+use Rattle.model.specs.declared.Controller.{Controller}
+use Rattle.model.specs.declared.Register.the-variants.{Tsr, Ti, Tdt, Tdl, Tdh}
+use Rattle.model.specs.declared.Step as steps
+use Rattle.model.specs.declared.Step.the-variants.{Reset, Read, Write, Idle, BitTimes, Activity, Start, Outcome, Receive, ReceiveError}
+
+-- an accepted write to a word of mailbox m: "Writable bits: .. TDT 0xFFFF010F", all of TDL and TDH, TI but for TXRQ
+pub record MailboxWords (z : Controller) (m : Mailbox) (w : ℕ) : Type 0 where
+  pub ti : Accepts z (Ti m) w → (i : ℕ) → bit (1 + i) (reads (afterWrite z (Ti m) w) (Ti m)) ≡ bit (1 + i) w
+  pub tdt : Accepts z (Tdt m) w → Within 0xFFFF010F w (reads (afterWrite z (Tdt m) w) (Tdt m))
+  pub tdl : Accepts z (Tdl m) w → reads (afterWrite z (Tdl m) w) (Tdl m) ≡ w
+  pub tdh : Accepts z (Tdh m) w → reads (afterWrite z (Tdh m) w) (Tdh m) ≡ w
+
+-- the step is an accepted start of mailbox m: its word is the mailbox's number
+abbrev pub starts : Controller → steps.Step → Mailbox → Bool
+starts z Reset m = false
+starts z (Read o) m = false
+starts z (Write o w) m = false
+starts z Idle m = false
+starts z (BitTimes n) m = false
+starts z Activity m = false
+starts z Start m = eqb (step z Start .code) 0 && eqb (step z Start .word) (number m)
+starts z (Outcome r) m = false
+starts z (Receive x) m = false
+starts z (ReceiveError k n) m = false
+
+-- what a step does to the words of mailbox m
+pub record MailboxStays (z : Controller) (s : steps.Step) (m : Mailbox) : Type 0 where
+  -- TXRQ reads 1 exactly while the mailbox isn't empty
+  pub txrq : bit 0 (reads z (Ti m)) ≡ not (bit (26 + number m) (reads z Tsr))
+  -- but for TIME, a word changes only by a write to it or by a hardware reset
+  pub ti : sets s (Ti m) ≡ false → (i : ℕ) → bit (1 + i) (reads (step z s .controller) (Ti m)) ≡ bit (1 + i) (reads z (Ti m))
+  pub tdt : sets s (Tdt m) ≡ false → bits 0 16 (reads (step z s .controller) (Tdt m)) ≡ bits 0 16 (reads z (Tdt m))
+  pub tdl : sets s (Tdl m) ≡ false → Stays z s (Tdl m)
+  pub tdh : sets s (Tdh m) ≡ false → Stays z s (Tdh m)
+  -- at a start TIME takes the timer, and so does that of no other mailbox
+  pub time : starts z s m ≡ true → InRange z → bits 16 16 (reads (step z s .controller) (Tdt m)) ≡ z .core .control .timer
+  pub notStarted : sets s (Tdt m) ≡ false → starts z s m ≡ false → Stays z s (Tdt m)
