@@ -5,6 +5,7 @@ pub mod LoopWalk
 pub mod NamedCalls
 pub mod Placed
 pub mod RecordWalk
+pub mod Rounds
 pub mod Single
 pub mod StepWalk
 pub mod Told

@@ -2,15 +2,15 @@
 use mathlib.Core.Bool.{Bool, true, false}
 use mathlib.Core.Path.{_≡_, refl}
 use mathlib.Core.List.{List, [], _++_, append-nil}
-use Prim.Native.Nat.{ℕ, _-_, _≤_}
+use Prim.Native.Nat.{ℕ, _-_, _≤_, min}
+use native.Mathlib.Nat.{min-eq-left, min-eq-right}
 use native.Mathlib.Omega.{arith}
 use lib.Dec.{leb}
 use lib.ListN.{length, take, drop, length-drop, drop-of-length-le}
 use lib.Seq.{length-take-le, take-all}
 use borrow.Author.Tests.{leb-true, leb-false}
-use Rattle.model.specs.Base.{pick}
 use Rattle.model.specs.Script.{overwritten}
-use Rattle.bench.specs.Lent.{atMost, placed}
+use Rattle.bench.specs.Lent.{placed}
 
 module _ (w : ℕ) (now : List ℕ) (h : w ≤ length now) where
   all : take (length now - w) (drop w now) ≡ drop w now
@@ -28,24 +28,14 @@ module _ (w : ℕ) (now : List ℕ) (h : w ≤ length now) where
 
 -- a place past the end counts as the end
 module _ (w : ℕ) (now : List ℕ) where
-  pub at-most-fits : atMost (length now) w ≤ length now
-  at-most-fits = go (leb w (length now)) refl
-    where
-      go : (b : Bool) → leb w (length now) ≡ b → pick b w (length now) ≤ length now
-      go true e = leb-true w (length now) e
-      go false e = omega arith
+  pub least-left : length now - min w (length now) ≡ length now - w
+  least-left = omega arith
 
-  pub at-most-left : length now - atMost (length now) w ≡ length now - w
-  at-most-left = go (leb w (length now)) refl
+  pub least-placed : (r : List ℕ) → placed (min w (length now)) r now ≡ placed w r now
+  least-placed r = go (leb w (length now)) refl
     where
-      go : (b : Bool) → leb w (length now) ≡ b → length now - pick b w (length now) ≡ length now - w
-      go true e = refl
-      go false e = omega (arith, leb-false w (length now) e)
-
-  pub at-most-placed : (r : List ℕ) → placed (atMost (length now) w) r now ≡ placed w r now
-  at-most-placed r = go (leb w (length now)) refl
-    where
-      go : (b : Bool) → leb w (length now) ≡ b → placed (pick b w (length now)) r now ≡ placed w r now
-      go true e = refl
+      go : (b : Bool) → leb w (length now) ≡ b → placed (min w (length now)) r now ≡ placed w r now
+      go true e = rw (min-eq-left (leb-true w (length now) e))
       go false e =
-          rw (take-all (length now) now (omega arith), take-all w now (omega (arith, leb-false w (length now) e)), drop-of-length-le now {i = length now} (omega arith), drop-of-length-le now {i = w} (omega (arith, leb-false w (length now) e)))
+          let h : length now ≤ w = omega (arith, leb-false w (length now) e) in
+          rw (min-eq-right h, take-all (length now) now (omega arith), take-all w now h, drop-of-length-le now {i = length now} (omega arith), drop-of-length-le now {i = w} h)

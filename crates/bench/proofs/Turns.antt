@@ -10,7 +10,7 @@ use Rattle.model.specs.Script.{recordAt, replyOf, overwritten, stops, replay}
 use Rattle.model.specs.Script as scripts
 use Rattle.model.specs.declared.Controller.{Controller}
 use Rattle.model.specs.declared.Replayed.{Replayed}
-use Rattle.script.proofs.Rounds.{reply-bytes, answered-bytes, after, Going, going-begun, more, bytes-fit, further, place-within, going-on, last-round, result}
+use Rattle.bench.proofs.Rounds.{reply-bytes, answered-bytes, after, Going, going-begun, more, bytes-fit, further, place-within, going-on, last-round, result}
 use Rattle.bench.specs.declared.Progress.{Progress}
 use Rattle.bench.specs.declared.Recorded.{Recorded}
 use Rattle.bench.specs.Lent.{recordedOf, placed, recordIn, replyBytes, begun, progressed, finished}

@@ -4,7 +4,7 @@ use mathlib.Core.Bool.{Bool, true, false, not, _||_}
 use mathlib.Core.Path.{_≡_}
 use mathlib.Core.List.{List, _++_}
 use Prim.Native.Nat.{ℕ, _+_, _-_}
-use lib.Dec.{eqb, leb}
+use lib.Dec.{eqb}
 use lib.ListN.{length, take, drop}
 use Rattle.model.specs.Base.{pick, one}
 use Rattle.model.specs.Script.{recordAt, replyOf, overwritten, stops}
@@ -27,10 +27,6 @@ Taken z e r z′ = (r ≡ answerOf (step z e)) × (z′ ≡ step z e .controller
 
 abbrev pub recordedOf : Replayed → Recorded
 recordedOf r = record { place = r .place; ended = r .ended; code = r .code; lines = r .lines; word = r .word }
-
--- the smaller of two numbers
-abbrev pub atMost : ℕ → ℕ → ℕ
-atMost n i = pick (leb i n) i n
 
 -- the reply space with a reply written from place w on
 abbrev pub placed : ℕ → List ℕ → List ℕ → List ℕ

@@ -102,16 +102,6 @@ pub struct Recorded {
     pub word: u32,
 }
 
-// The smaller of two numbers.
-fn at_most(n: usize, i: usize) -> usize
-    ensures { λ r. ⌜ r ≡ lent.atMost n i ⌝ }
-{
-    if i <= n {
-        return i;
-    }
-    n
-}
-
 // One record by value, its reply from place `written` of the reply space on. A place past the space counts as its end.
 fn replayed_at(
     z: Controller,
@@ -122,7 +112,7 @@ fn replayed_at(
 ) -> Replayed
     ensures { λ r. ⌜ (r ≡ lent.recordIn z (now (script .entry)) place (now (replies .entry)) written) × (now (replies .exit) ≡ lent.placed written (scripts.replyOf r) (now (replies .entry))) ⌝ }
 {
-    let from = at_most(replies.len(), written);
+    let from = bits::least(written, replies.len());
     script::replayed(z, script, place, &mut replies[from..])
 }
 

@@ -1,6 +1,6 @@
 // Bits of words, flags as numbers, and choices between numbers.
 ghost use mathlib.Core.Path.{_≡_};
-ghost use Prim.Native.Nat.{_<_};
+ghost use Prim.Native.Nat.{_<_, _≤_, min};
 ghost use Rattle.model.specs.Base as base;
 
 // Bit i of w; a word has no bits from 32 on.
@@ -41,4 +41,11 @@ pub fn pick_bool(b: bool, x: bool, y: bool) -> bool
     ensures { λ r. ⌜ r ≡ base.pick b x y ⌝ }
 {
     if b { x } else { y }
+}
+
+// The smaller of two numbers.
+pub fn least(a: usize, b: usize) -> usize
+    ensures { λ r. ⌜ (r ≡ min a b) × (r ≤ b) ⌝ }
+{
+    if a < b { a } else { b }
 }

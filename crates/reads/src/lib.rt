@@ -139,12 +139,6 @@ pub fn word_at(c: Core, banks: &[u32; 28], e: Step, g: Register, code: u8) -> u3
     }
 }
 
-pub fn word_of(c: Core, banks: &[u32; 28], e: Step, code: u8) -> u32
-    ensures { λ r. ⌜ r ≡ base.pick (eqb code 0) (stepping.wordOf c (now (banks .entry)) e) 0 ⌝ }
-{
-    word_at(c, banks, e, registers::register_of(e), code)
-}
-
 fn any_rqcp(t: Transmit) -> bool
     ensures { λ r. ⌜ r ≡ stepping.anyRqcp t ⌝ }
 {

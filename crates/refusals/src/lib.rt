@@ -134,9 +134,3 @@ pub fn refusal_at(c: Core, e: Step, g: Register) -> u8
         }
     }
 }
-
-pub fn refusal(c: Core, e: Step) -> u8
-    ensures { λ r. ⌜ r ≡ stepping.refusal c e ⌝ }
-{
-    refusal_at(c, e, registers::register_of(e))
-}

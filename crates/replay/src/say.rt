@@ -44,7 +44,7 @@ fn length_said(low: u8, high: u8) -> usize {
 
 // Why the record at a place of a script can't be read, by its code 6 to 8.
 pub(crate) fn fault(code: u8, script: &[u8], place: usize) {
-    let a = stream::least(place, script.len());
+    let a = bits::least(place, script.len());
     say_reason(code, &script[a..]);
 }
 

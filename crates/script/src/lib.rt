@@ -1,4 +1,4 @@
-// Bench scripts: one record, its reply, and the replay of a whole script.
+// Bench scripts: one record with its reply, and where a replay stops.
 ghost use mathlib.Core.Path.{_≡_};
 ghost use mathlib.Core.List.{[]};
 ghost use Prim.Native.Nat.{_≤_};
@@ -10,7 +10,6 @@ ghost use Rattle.model.specs.Script as scripts;
 ghost use Rattle.script.specs.OneWay as way;
 use model::Controller;
 use model::Reading;
-use model::Replay;
 use model::Replayed;
 use model::Step;
 
@@ -129,7 +128,7 @@ pub fn replayed(z: Controller, script: &[u8], place: usize, reply: &mut [u8]) ->
     }
 }
 
-// ---- a whole script
+// ---- record after record
 
 // A replay stops at the end and where a record can't be read or answered.
 pub fn stops(ended: bool, code: u8) -> bool
@@ -146,35 +145,4 @@ pub fn reply_length(ended: bool, code: u8) -> usize
         return 0;
     }
     9
-}
-
-// Record after record, each reply behind the one before it.
-pub fn replay(z: Controller, script: &[u8], replies: &mut [u8]) -> Replay
-    ensures { λ r. ⌜ r ≡ scripts.replay z (now (script .entry)) (length (now (replies .entry))) .result ⌝ }
-    ensures { λ r. ⌜ now (replies .exit) ≡ scripts.overwritten (scripts.replay z (now (script .entry)) (length (now (replies .entry))) .replies) (now (replies .entry)) ⌝ }
-{
-    let mut state = z;
-    let mut place: usize = 0;
-    let mut records: usize = 0;
-    let mut written: usize = 0;
-    loop {
-        let r = replayed(state, script, place, &mut replies[written..]);
-        state = r.controller;
-        if stops(r.ended, r.code) {
-            let all = written + reply_length(r.ended, r.code);
-            return Replay {
-                controller: state,
-                place: r.place,
-                records: records,
-                written: all,
-                ended: r.ended,
-                code: r.code,
-                lines: r.lines,
-                word: r.word,
-            };
-        }
-        place = r.place;
-        records += 1;
-        written += 9;
-    }
 }

@@ -1,9 +1,7 @@
 // A script of any length, read a piece at a time.
 ghost use mathlib.Core.Path.{_≡_};
-ghost use Prim.Native.Nat.{_≤_, min};
 ghost use lib.ListN.{length};
 ghost use Rattle.io.specs.Counts.{Counts};
-ghost use Rattle.model.specs.Scripts as scripts;
 ghost use Rattle.stream.specs.Space as spaces;
 use libc::STDIN_FILENO;
 
@@ -13,7 +11,7 @@ pub fn to_front(space: &mut [u8], from: usize, to: usize) -> usize
     ensures { λ r. ⌜ now (space .exit) ≡ spaces.moved from r (now (space .entry)) ⌝ }
 {
     let n = space.len();
-    let end = least(to, n);
+    let end = bits::least(to, n);
     if end <= from {
         return 0;
     }
@@ -25,12 +23,6 @@ pub fn to_front(space: &mut [u8], from: usize, to: usize) -> usize
         i += 1;
     }
     k
-}
-
-pub fn least(a: usize, b: usize) -> usize
-    ensures { λ r. ⌜ (r ≡ min a b) × (r ≤ b) ⌝ }
-{
-    if a < b { a } else { b }
 }
 
 // What a space holds after more was read: so many bytes; whether the input has ended; whether the read failed.
@@ -54,11 +46,4 @@ pub fn refilled(space: &mut [u8], from: usize, to: usize) -> Filled
         ended: got == 0,
         failed: got < 0,
     }
-}
-
-// Whether the replay of a piece stopped where the next piece goes on: at its end, or at a record that is cut short there.
-pub fn goes_on(ended: bool, code: u8) -> bool
-    ensures { λ r. ⌜ r ≡ scripts.goesOn ended code ⌝ }
-{
-    ended | (code == 6)
 }

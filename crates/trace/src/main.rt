@@ -1,5 +1,6 @@
 // A bench script told in words: a line for each record with the step, its answer, the interrupt lines that are up and
 // what it changed. The script comes on standard input, the text goes to standard output; both go in pieces.
+use bits::least;
 use changes::Taken;
 use changes::View;
 use libc::STDERR_FILENO;
@@ -8,7 +9,6 @@ use model::Controller;
 use model::Reading;
 use model::Step;
 use names::Place;
-use stream::least;
 use text::Line;
 use text::byte;
 use text::column;

@@ -60,7 +60,7 @@ pub(crate) fn column(l: Line, to: usize) -> Line {
 // Copies the text to the start of a row and says how long it is.
 pub(crate) fn copied(l: Line, row: &mut [u8]) -> usize {
     let bytes = l.bytes;
-    let n = stream::least(stream::least(l.at, ROOM), row.len());
+    let n = bits::least(bits::least(l.at, ROOM), row.len());
     for i in 0..n {
         row[i] = bytes[i];
     }

@@ -17,11 +17,11 @@ large-buffer-requires c κs = search needs
 reset-requires : tie.Need-reset-requires Inv-loop μ-loop
 reset-requires c κs = search needs
 
+begun-requires : tie.Need-begun-requires Inv-loop μ-loop
+begun-requires c κs = search needs
+
 loop-holds : tie.Need-loop-holds Inv-loop μ-loop
 loop-holds c = search needs
-
-going-requires : tie.Need-going-requires Inv-loop μ-loop
-going-requires c κs = search needs
 
 slice-aggregate-next : tie.Need-slice-aggregate-next Inv-loop μ-loop
 slice-aggregate-next c = search needs
@@ -55,8 +55,8 @@ main-spec =
     μ-loop
     large-buffer-requires
     reset-requires
+    begun-requires
     loop-holds
-    going-requires
     slice-aggregate-next
     slice-aggregate-next-2
     next-requires

@@ -123,7 +123,7 @@ module _ (z : Controller) (s : List ℕ) (space : List ℕ) where
 
     -- a record that was answered: the replay goes on behind it
     module _ (h : stops (r .ended) (r .code) ≡ false) where
-      pub nine-fit : w + 9 ≤ length space
+      nine-fit : w + 9 ≤ length space
       nine-fit = omega (arith, answered-bytes r h, bytes-fit)
 
       pub further : p + 3 ≤ r .place
