@@ -7,7 +7,7 @@ use native.Mathlib.Omega.{arith}
 use lib.Dec.{eqb, ltb, leb}
 use borrow.Author.Tests.{eqb-true, eqb-false, ne-eqb, ltb-true, ltb-false, leb-true, leb-false, lt-ltb, le-ltb}
 use Rattle.model.specs.Base.{pick, bit, bits, one}
-use Rattle.model.specs.Queue.{number, holds}
+use Rattle.model.specs.Queue.{holds}
 use Rattle.model.specs.Mailboxes.{at, tdtMasked, sentIdentifier, tiWord}
 use Rattle.model.specs.Search.{acceptance}
 use Rattle.model.specs.Reception.{malformed, dataBytes, bytesKept, storedFrame, sentFrame, noFrame, emptyFifo, pushed, fmiOf, received, released, cleared, rfrWritten, rfrWord, output}
@@ -16,7 +16,7 @@ use Rattle.model.specs.Registers.{registerAt, blockRegister, mailboxRegi
 use Rattle.model.specs.Step.{step, answered, refusal, wordOf, applied, settled, storedBy, startedBy, loopedBack, endedBy}
 use Rattle.model.specs.Codes.{fifoNumber}
 use Rattle.model.specs.Reachable.{InRange, StepRange, FifoRange, MailboxRange}
-use Rattle.model.specs.Shown.{shown, fmr, ri, rdt, rdl, rdh, Done, nextOf}
+use Rattle.model.specs.Shown.{fmr, rdt, rdl, rdh, ti, tdt, tdl, tdh, Done, nextOf}
 use Rattle.model.specs.Fifos.{other, NoOutput, SameOutput, Kept, hasByte, Shows, Stored, Passed, SentBy, isLooped, EndRule, WriteRule, FifoRule, Fifos}
 use Rattle.model.specs.Fifos as read
 use Rattle.model.specs.declared.Mailbox.{Mailbox}
@@ -250,25 +250,25 @@ receive-passes z x i j h =
 
 -- ---- loopback
 
-ti-shown : (m : Mailbox) (z : Controller) → shown z (0x180 + 0x10 * number m) ≡ tiWord (z .core .transmit) m
+ti-shown : (m : Mailbox) (z : Controller) → ti m z ≡ tiWord (z .core .transmit) m
 unfolding step answered refusal wordOf registerAt blockRegister mailboxRegister readWord
 ti-shown M0 z = refl
 ti-shown M1 z = refl
 ti-shown M2 z = refl
 
-tdt-shown : (m : Mailbox) (z : Controller) → shown z (0x184 + 0x10 * number m) ≡ at (z .core .transmit .mailboxes) m .tdt
+tdt-shown : (m : Mailbox) (z : Controller) → tdt m z ≡ at (z .core .transmit .mailboxes) m .tdt
 unfolding step answered refusal wordOf registerAt blockRegister mailboxRegister readWord
 tdt-shown M0 z = refl
 tdt-shown M1 z = refl
 tdt-shown M2 z = refl
 
-tdl-shown : (m : Mailbox) (z : Controller) → shown z (0x188 + 0x10 * number m) ≡ at (z .core .transmit .mailboxes) m .tdl
+tdl-shown : (m : Mailbox) (z : Controller) → tdl m z ≡ at (z .core .transmit .mailboxes) m .tdl
 unfolding step answered refusal wordOf registerAt blockRegister mailboxRegister readWord
 tdl-shown M0 z = refl
 tdl-shown M1 z = refl
 tdl-shown M2 z = refl
 
-tdh-shown : (m : Mailbox) (z : Controller) → shown z (0x18C + 0x10 * number m) ≡ at (z .core .transmit .mailboxes) m .tdh
+tdh-shown : (m : Mailbox) (z : Controller) → tdh m z ≡ at (z .core .transmit .mailboxes) m .tdh
 unfolding step answered refusal wordOf registerAt blockRegister mailboxRegister readWord
 tdh-shown M0 z = refl
 tdh-shown M1 z = refl
@@ -387,7 +387,7 @@ sent-by m z i =
     let x : MailboxState = at (z .core .transmit .mailboxes) m in
     let k : MailboxRange x = i .core .transmit .mailboxes m in
     let b : Bool = holds (z .core .transmit .queue .order) m in
-    let w : SentWord (sentIdentifier (x .ti)) (shown z (0x180 + 0x10 * number m)) = sent-word (x .ti) _ (one b) (k .ti) (k .even) (omega (arith, one-le b)) (ti-shown m z) in
+    let w : SentWord (sentIdentifier (x .ti)) (ti m z) = sent-word (x .ti) _ (one b) (k .ti) (k .even) (omega (arith, one-le b)) (ti-shown m z) in
     record {
       stid = w .stid;
       exid = w .exid;
@@ -400,7 +400,7 @@ sent-by m z i =
       high = sym (tdh-shown m z);
     }
 
-time-of : (m : Mailbox) (z : Controller) → InRange z → (bits 16 16 (shown z (0x184 + 0x10 * number m)) ≡ at (z .core .transmit .mailboxes) m .tdt / 65536) × (at (z .core .transmit .mailboxes) m .tdt / 65536 < 65536)
+time-of : (m : Mailbox) (z : Controller) → InRange z → (bits 16 16 (tdt m z) ≡ at (z .core .transmit .mailboxes) m .tdt / 65536) × (at (z .core .transmit .mailboxes) m .tdt / 65536 < 65536)
 time-of m z i =
     let t : ℕ = at (z .core .transmit .mailboxes) m .tdt in
     let e : tdtMasked t ≡ t = i .core .transmit .mailboxes m .tdt in
@@ -451,7 +451,7 @@ module _ (z : Controller) (r : ℕ) (i : InRange z) (j : InRange (nextOf z (Outc
   ended-fifo f u e = done-fifo f z (Outcome r) h ∙ rw e
 
   loop-passes : (m : Mailbox) → c .transmit .queue .transmitting ≡ From m → looping c r ≡ true
-      → Passed (taken c (z .banks) m) z (nextOf z (Outcome r)) (sentOf c m) (bits 16 16 (shown z (0x184 + 0x10 * number m)))
+      → Passed (taken c (z .banks) m) z (nextOf z (Outcome r)) (sentOf c m) (bits 16 16 (tdt m z))
   loop-passes m e k =
       let t = time-of m z i in
       rw (t .0)
@@ -464,8 +464,8 @@ module _ (z : Controller) (r : ℕ) (i : InRange z) (j : InRange (nextOf z (Outc
 
   end-rule : EndRule z r (nextOf z (Outcome r))
   end-rule = record {
-    loops = λ m e k. (sent-by m z i, loop-passes m e (looping-shown z r true k));
-    else = λ k f. kept f z (nextOf z (Outcome r)) (ended-fifo f _ refl ∙ end-kept f (c .transmit .queue .transmitting) c (z .banks) r (looping-shown z r false k));
+    loops = λ m e k. loop-passes m e (looping-shown z r true k);
+    otherwise = λ k f. kept f z (nextOf z (Outcome r)) (ended-fifo f _ refl ∙ end-kept f (c .transmit .queue .transmitting) c (z .banks) r (looping-shown z r false k));
   }
 
 -- ---- writes
@@ -511,7 +511,7 @@ write-rule f z o w i j h =
             still = λ n. same-output f z y (p .still n);
           };
       reset = λ k. rfr-shown f y ∙ (ap rfrWord e ∙ rw k);
-      else = λ k n. kept f z y (e ∙ rw (n, k));
+      otherwise = λ k n. kept f z y (e ∙ rw (n, k));
     }
 
 -- ---- every step
@@ -543,4 +543,4 @@ fifo-rule z (Receive x) i j h = receive-passes z x i j h
 fifo-rule z (ReceiveError k n) i j h = λ f. kept f z _ (done-fifo f z (ReceiveError k n) h ∙ both f _ (z .core) refl refl)
 
 pub fifos : (z : Controller) (s : steps.Step) → InRange z → StepRange s → Fifos z s
-fifos z s i l = record { empty = λ f h. no-output f z i h; change = λ h. fifo-rule z s i (step-in-range z s i l) h }
+fifos z s i l = record { empty = λ f h. no-output f z i h; sends = λ m. sent-by m z i; change = λ h. fifo-rule z s i (step-in-range z s i l) h }

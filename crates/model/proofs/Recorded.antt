@@ -394,12 +394,16 @@ record-stands s p = record { found = found-stands s p }
 
 -- ---- replies
 
-reply-word : (code lines w : ℕ) → drop 5 (reply code lines w) ≡ bytesOf 4 w
-unfolding reply bytesOf
-reply-word code lines w =
+four-bytes : (w : ℕ) → w % 256 ∷ w / 2 ^ 8 % 256 ∷ w / 2 ^ 16 % 256 ∷ w / 2 ^ 24 % 256 ∷ [] ≡ bytesOf 4 w
+unfolding bytesOf
+four-bytes w =
     let a : w / 65536 ≡ w / 256 / 256 = omega arith in
     let b : w / 16777216 ≡ w / 256 / 256 / 256 = omega arith in
     rw (a, b)
+
+reply-word : (code lines w : ℕ) → drop 5 (reply code lines w) ≡ bytesOf 4 w
+unfolding reply
+reply-word code lines w = four-bytes w
 
 reply-parts : (code lines w : ℕ) → reply code lines w ≡ (0x81 ∷ 0x06 ∷ 0x00 ∷ code ∷ lines ∷ []) ++ bytesOf 4 w
 unfolding reply

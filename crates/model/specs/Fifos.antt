@@ -6,13 +6,12 @@ use mathlib.Core.Path.{_≡_}
 use Prim.Native.Nat.{ℕ, _+_, _*_, _-_, _^_, _<_, min}
 use lib.Dec.{eqb, ltb}
 use Rattle.model.specs.Base.{pick, bit, bits, one}
-use Rattle.model.specs.Queue.{number}
 use Rattle.model.specs.Mailboxes.{at}
 use Rattle.model.specs.Search.{acceptance}
 use Rattle.model.specs.Reception.{sentFrame}
 use Rattle.model.specs.Registers.{bankCount, fifoOf}
 use Rattle.model.specs.Codes.{fifoNumber}
-use Rattle.model.specs.Shown.{shown, rfr, btr, fmr, ri, rdt, rdl, rdh, Done, nextOf, resets}
+use Rattle.model.specs.Shown.{rfr, btr, fmr, ri, rdt, rdl, rdh, ti, tdt, tdl, tdh, Done, nextOf, resets}
 use Rattle.model.specs.declared.Mailbox.{Mailbox}
 use Rattle.model.specs.declared.Sender.the-variants.{From}
 use Rattle.model.specs.declared.Fifo.{Fifo}
@@ -95,17 +94,21 @@ Passed Rejected z y x time = (f : Fifo) → Kept f z y
 
 -- ---- loopback
 
--- the frame x is what mailbox m sends: its words as they read, without TXRQ, and EXID of a standard one as 0
+-- the frame that mailbox m sends
+abbrev pub sent : Controller → Mailbox → Frame
+sent z m = sentFrame (at (z .core .transmit .mailboxes) m)
+
+-- x has the mailbox's words as they read, without TXRQ, and EXID of a standard one as 0
 pub record SentBy (m : Mailbox) (z : Controller) (x : Frame) : Type 0 where
-  pub stid : bits 21 11 (x .identifier) ≡ bits 21 11 (shown z (0x180 + 0x10 * number m))
-  pub exid : bits 3 18 (x .identifier) ≡ pick (bit 2 (x .identifier)) (bits 3 18 (shown z (0x180 + 0x10 * number m))) 0
-  pub ide : bit 2 (x .identifier) ≡ bit 2 (shown z (0x180 + 0x10 * number m))
-  pub rtr : bit 1 (x .identifier) ≡ bit 1 (shown z (0x180 + 0x10 * number m))
+  pub stid : bits 21 11 (x .identifier) ≡ bits 21 11 (ti m z)
+  pub exid : bits 3 18 (x .identifier) ≡ pick (bit 2 (x .identifier)) (bits 3 18 (ti m z)) 0
+  pub ide : bit 2 (x .identifier) ≡ bit 2 (ti m z)
+  pub rtr : bit 1 (x .identifier) ≡ bit 1 (ti m z)
   pub none : bit 0 (x .identifier) ≡ false
   pub word : x .identifier < 2 ^ 32
-  pub code : x .length ≡ bits 0 4 (shown z (0x184 + 0x10 * number m))
-  pub low : x .low ≡ shown z (0x188 + 0x10 * number m)
-  pub high : x .high ≡ shown z (0x18C + 0x10 * number m)
+  pub code : x .length ≡ bits 0 4 (tdt m z)
+  pub low : x .low ≡ tdl m z
+  pub high : x .high ≡ tdh m z
 
 -- LBKM=1 and FINIT=0
 abbrev pub isLooped : Controller → Bool
@@ -114,10 +117,8 @@ isLooped z = bit 30 (btr z) && not (bit 0 (fmr z))
 -- an own end: in loopback a good frame passes the filters too, with the mailbox's TIME
 pub record EndRule (z : Controller) (r : ℕ) (y : Controller) : Type 0 where
   pub loops : (m : Mailbox) → z .core .transmit .queue .transmitting ≡ From m → eqb r 0 && isLooped z ≡ true
-      → SentBy m z (sentFrame (at (z .core .transmit .mailboxes) m))
-      × Passed (acceptance bankCount (z .core .filters) (z .banks) (sentFrame (at (z .core .transmit .mailboxes) m) .identifier)) z y
-      (sentFrame (at (z .core .transmit .mailboxes) m)) (bits 16 16 (shown z (0x184 + 0x10 * number m)))
-  pub else : eqb r 0 && isLooped z ≡ false → (f : Fifo) → Kept f z y
+      → Passed (acceptance bankCount (z .core .filters) (z .banks) (sent z m .identifier)) z y (sent z m) (bits 16 16 (tdt m z))
+  pub otherwise : eqb r 0 && isLooped z ≡ false → (f : Fifo) → Kept f z y
 
 -- ---- writes
 
@@ -132,7 +133,7 @@ pub record WriteRule (z : Controller) (o w : ℕ) (y : Controller) (f : Fifo) : 
   pub released : eqb o (0x00C + 4 * fifoNumber f) ≡ true → Released f z w y
   -- MCR with bit 15 set: emptied, FULL and FOVR clear
   pub reset : resets (Write o w) ≡ true → rfr f y ≡ 0
-  pub else : eqb o (0x00C + 4 * fifoNumber f) ≡ false → resets (Write o w) ≡ false → Kept f z y
+  pub otherwise : eqb o (0x00C + 4 * fifoNumber f) ≡ false → resets (Write o w) ≡ false → Kept f z y
 
 -- ---- every accepted step, from z to y
 
@@ -150,4 +151,5 @@ FifoRule z (ReceiveError k n) y = (f : Fifo) → Kept f z y
 
 pub record Fifos (z : Controller) (s : steps.Step) : Type 0 where
   pub empty : (f : Fifo) → fmp f z ≡ 0 → NoOutput f z
+  pub sends : (m : Mailbox) → SentBy m z (sent z m)
   pub change : Done z s → FifoRule z s (nextOf z s)

@@ -2,10 +2,12 @@
 -- Document 01: "Register map". Bit places are those of 000.
 use mathlib.Core.Bool.{Bool, false, _&&_, _||_}
 use mathlib.Core.Path.{_≡_}
-use Prim.Native.Nat.{ℕ}
+use Prim.Native.Nat.{ℕ, _+_, _*_}
 use lib.Dec.{eqb}
 use Rattle.model.specs.Base.{bit}
+use Rattle.model.specs.Queue.{number}
 use Rattle.model.specs.Step.{step}
+use Rattle.model.specs.declared.Mailbox.{Mailbox}
 use Rattle.model.specs.declared.Fifo.{Fifo}
 use Rattle.model.specs.declared.Fifo.the-variants.{F0, F1}
 use Rattle.model.specs.declared.Controller.{Controller}
@@ -59,6 +61,19 @@ rdl F1 z = shown z 0x1C8
 abbrev pub rdh : Fifo → Controller → ℕ
 rdh F0 z = shown z 0x1BC
 rdh F1 z = shown z 0x1CC
+
+-- a mailbox: TI, TDT, TDL, TDH
+abbrev pub ti : Mailbox → Controller → ℕ
+ti m z = shown z (0x180 + 0x10 * number m)
+
+abbrev pub tdt : Mailbox → Controller → ℕ
+tdt m z = shown z (0x184 + 0x10 * number m)
+
+abbrev pub tdl : Mailbox → Controller → ℕ
+tdl m z = shown z (0x188 + 0x10 * number m)
+
+abbrev pub tdh : Mailbox → Controller → ℕ
+tdh m z = shown z (0x18C + 0x10 * number m)
 
 -- ---- steps
 
