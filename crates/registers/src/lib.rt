@@ -127,7 +127,11 @@ fn offset_of(e: Step) -> u16
 pub fn register_of(e: Step) -> Register
     ensures { λ r. ⌜ r ≡ registers.registerAt (accesses.offsetOf e) ⌝ }
 {
-    register_at(offset_of(e))
+    let o = offset_of(e);
+    if o == 1 {
+        return Register::Absent;
+    }
+    register_at(o)
 }
 
 pub fn is_absent(g: Register) -> bool

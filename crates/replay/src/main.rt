@@ -1,7 +1,6 @@
 // Replays a bench script from standard input, of any length, and writes the replies to standard output.
 use libc::STDOUT_FILENO;
 use pieces::Position;
-use pieces::Turn;
 
 mod say;
 
@@ -13,41 +12,39 @@ struct Progress {
     going: bool,
 }
 
-// Says at which record and byte something is wrong.
-fn say_place(k: Position) {
-    say::place(std::num::wrapping_add_u64(k.records, 1), k.bytes);
+// Says at which record and byte something is wrong, behind so many records and bytes. Numbers and not the position: a call in a
+// rarely taken branch would keep the controller in memory.
+fn say_place(records: u64, bytes: u64) {
+    say::place(std::num::wrapping_add_u64(records, 1), bytes);
 }
 
 // Writes the first n bytes of replies and answers whether that went well.
-fn is_written(k: Position, replies: &[u8], n: usize) -> bool {
+fn is_written(records: u64, bytes: u64, replies: &[u8], n: usize) -> bool {
     let m = bits::least(n, replies.len());
     let start: usize = 0;
     let ok = io::write_all(STDOUT_FILENO, &replies[start..m]);
     if !ok {
-        say_place(k);
+        say_place(records, bytes);
         say::say(b"standard output can't be written; the replies from here on are lost\n");
     }
     ok
 }
 
-// Says why a record of a piece can't be read, where that ended the replay.
-fn say_fault(t: Turn, piece: &[u8]) {
-    if !t.going & !t.ended {
-        let k = t.position;
-        say_place(k);
-        say::fault(t.code, piece, t.place);
-    }
+// Says why the record at a place of a piece can't be read.
+fn say_fault(records: u64, bytes: u64, code: u8, piece: &[u8], place: usize) {
+    say_place(records, bytes);
+    say::fault(code, piece, place);
 }
 
 // Replays a piece and writes the replies.
 fn replayed(p: Progress, piece: &[u8], replies: &mut [u8], last: bool) -> Progress {
     let k = p.position;
     let t = pieces::replay_piece(k, piece, last, replies);
-    let ok = is_written(k, replies, t.sent);
-    if ok {
-        say_fault(t, piece);
-    }
+    let ok = is_written(k.records, k.bytes, replies, t.sent);
     let next = t.position;
+    if ok & !t.going & !t.ended {
+        say_fault(next.records, next.bytes, t.code, piece, t.place);
+    }
     Progress {
         position: next,
         from: t.place,
@@ -61,7 +58,7 @@ fn next(p: Progress, space: &mut [u8], replies: &mut [u8]) -> Progress {
     let f = stream::refilled(space, p.from, p.to);
     if f.failed {
         let k = p.position;
-        say_place(k);
+        say_place(k.records, k.bytes);
         say::say(b"standard input can't be read\n");
         return Progress {
             position: k,
