@@ -32,7 +32,7 @@ fn is_written(records: u64, bytes: u64, replies: &[u8], n: usize) -> bool {
 
 // Says why the record at a place of a piece can't be read.
 fn say_fault(records: u64, bytes: u64, code: u8, piece: &[u8], place: usize) {
-    say_place(records, bytes);
+    say::place(std::num::wrapping_add_u64(records, 1), bytes);
     say::fault(code, piece, place);
 }
 
