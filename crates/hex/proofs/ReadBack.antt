@@ -195,6 +195,10 @@ module _ (r : Reader) (c : ℕ) where
         let a : h % 16 ≡ h = omega arith in
         let b : v % 16 ≡ v = omega (arith, digit-only c v k .0) in
         rw (at-place (1 ∷ h ∷ []) e, of-kind (0 ∷ v ∷ []) k, a, b);
+    first = λ v e k. rw (at-place (0 ∷ []) e, of-kind (0 ∷ v ∷ []) k);
+    hash = λ e k. rw (at-place (0 ∷ []) e, of-kind (3 ∷ []) k);
+    blank = λ e k. rw (at-place (0 ∷ []) e, of-kind (1 ∷ []) k);
+    lineEnd = λ e k. rw (at-place (0 ∷ []) e, of-kind (2 ∷ []) k);
     wrong = λ e k. rw (at-place (0 ∷ []) e, of-kind (4 ∷ []) k);
     wrongInside = λ h e k. rw (at-place (1 ∷ h ∷ []) e, of-kind (4 ∷ []) k);
     lone = λ h k e f n. rw (at-place (1 ∷ h ∷ []) e) (lone-digit (at r (Inside h)) c k (kindOf c) f n);

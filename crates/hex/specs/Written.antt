@@ -40,6 +40,11 @@ pub record Digits : Type 0 where
 -- ---- one character at each place
 
 pub record Places (r : Reader) (c : ℕ) : Type 0 where
+  -- between bytes: a first digit, a comment, and blanks and line ends, which are passed over
+  pub first : (v : ℕ) → placeNumbers (r .place) ≡ 0 ∷ [] → kindNumbers (kindOf c) ≡ 0 ∷ v ∷ [] → placeNumbers (taken r c .reader .place) ≡ 1 ∷ v ∷ []
+  pub hash : placeNumbers (r .place) ≡ 0 ∷ [] → kindNumbers (kindOf c) ≡ 3 ∷ [] → placeNumbers (taken r c .reader .place) ≡ 2 ∷ []
+  pub blank : placeNumbers (r .place) ≡ 0 ∷ [] → kindNumbers (kindOf c) ≡ 1 ∷ [] → placeNumbers (taken r c .reader .place) ≡ 0 ∷ []
+  pub lineEnd : placeNumbers (r .place) ≡ 0 ∷ [] → kindNumbers (kindOf c) ≡ 2 ∷ [] → placeNumbers (taken r c .reader .place) ≡ 0 ∷ []
   -- a second digit gives a byte
   pub second : (h v : ℕ) → h < 16 → placeNumbers (r .place) ≡ 1 ∷ h ∷ [] → kindNumbers (kindOf c) ≡ 0 ∷ v ∷ [] → bytesOf (taken r c .given) ≡ (h * 16 + v) ∷ []
   -- a character that has no place in hex text, between bytes or behind a first digit

@@ -1,20 +1,20 @@
 -- The first in priority goes on the wire; the last in priority is the one that no pending mailbox comes behind.
 use mathlib.Core.Bool.{Bool, true, false, not, _&&_, _||_, Bool·beq, true≢false, false≢true}
-use mathlib.Core.List.{List, [], _∷_}
+use mathlib.Core.List.{[], _∷_}
 use mathlib.Core.Path.{_≡_, refl, sym, ap, ap₂, subst, _∙_}
-use Prim.Native.Nat.{ℕ, _+_, _*_, _/_, _<_, _≤_}
+use Prim.Native.Nat.{ℕ, _+_, _*_, _<_, _≤_}
 use native.Mathlib.Omega.{arith}
 use lib.Dec.{eqb, ltb}
-use borrow.Author.Tests.{eqb-true, eqb-false, ltb-true, ltb-false, eq-eqb, ne-eqb, lt-ltb}
+use borrow.Author.Tests.{eqb-false, ltb-true, ltb-false, lt-ltb}
 use Rattle.model.specs.Base.{pick, bit, one}
 use Rattle.model.specs.Queue.{number, same, holds, without, oldest, newest, isFrom, isNobody, isEmpty, besides, orderNumbers, senderNumbers}
-use Rattle.model.specs.Mailboxes.{at, identifiers, identifier, wireKey, key, before, sooner, later, firstInWireOrder, lastInWireOrder, first, last, firstOf, lastOf, started, tiWord}
+use Rattle.model.specs.Mailboxes.{at, identifiers, identifier, wireKey, key, before, sooner, later, firstInWireOrder, lastInWireOrder, first, last, lastOf, started, tiWord}
 use Rattle.model.specs.Control.{txfp}
-use Rattle.model.specs.Registers.{readWord, withTransmit, isFree}
+use Rattle.model.specs.Registers.{readWord}
 use Rattle.model.specs.Step.{step, settled}
 use Rattle.model.specs.Reachable.{distinct, carried}
-use Rattle.model.specs.ReadBack.{reads}
-use Rattle.model.specs.Arbitration.{requests, onWire, has, isPending, earlier, goesBefore, precedes, IsFirst, IsLast, Names, StartsFirst}
+use Rattle.model.specs.ReadBack.{reads, has}
+use Rattle.model.specs.Arbitration.{isPending, earlier, goesBefore, precedes, IsFirst, IsLast, StartsFirst}
 use Rattle.model.specs.declared.Mailbox.{Mailbox}
 use Rattle.model.specs.declared.Mailbox.the-variants.{M0, M1, M2}
 use Rattle.model.specs.declared.Sender.{Sender}
@@ -22,28 +22,41 @@ use Rattle.model.specs.declared.Sender.the-variants.{Nobody, From}
 use Rattle.model.specs.declared.RequestOrder.{RequestOrder}
 use Rattle.model.specs.declared.RequestOrder.the-variants.{Empty, One, Two, Three}
 use Rattle.model.specs.declared.Identifiers.{Identifiers}
-use Rattle.model.specs.declared.Mailboxes as boxes
 use Rattle.model.specs.declared.Core.{Core}
 use Rattle.model.specs.declared.Controller.{Controller}
 use Rattle.model.specs.declared.Register.the-variants.{Mcr, Ti}
 use Rattle.model.specs.declared.Step.the-variants.{Start}
-use Rattle.model.proofs.Choices.{Is, imp, imp-Is, not-Is, Is-not, and-l, and-r, beq-eq, opposed, pick-cases}
-use Rattle.model.proofs.Orders.{each, same-eq, same-comm}
+use Rattle.model.proofs.Choices.{Is, imp, imp-Is, not-Is, Is-not, and-l, beq-eq, opposed, pick-cases}
+use Rattle.model.proofs.Orders.{mailboxes, orders, each-mailbox, each-order, each, same-eq, same-comm}
 use Rattle.model.proofs.Follows.{first-carried}
-use Rattle.model.proofs.RegisterAccess.{read-word, Somebody, Starts, start-accepted}
+use Rattle.model.proofs.RegisterAccess.{read-word, Somebody, start-accepted}
 use Rattle.model.proofs.WireBits.{goes-key, without-txrq, number-small}
+
+-- ---- computed tests over fewer mailboxes than `each` takes
+
+pub each-pair : (p : Mailbox → Mailbox → Bool) → Is (mailboxes (λ a. mailboxes (λ b. p a b))) → (a b : Mailbox) → Is (p a b)
+each-pair p h a b = each-mailbox (p a) (each-mailbox (λ a. mailboxes (λ b. p a b)) h a) b
+
+pub each-triple : (p : Mailbox → Mailbox → Mailbox → Bool) → Is (mailboxes (λ a. mailboxes (λ b. mailboxes (λ c. p a b c)))) → (a b c : Mailbox) → Is (p a b c)
+each-triple p h a = each-pair (p a) (each-mailbox (λ a. mailboxes (λ b. mailboxes (λ c. p a b c))) h a)
+
+pub each-of : (p : RequestOrder → Mailbox → Bool) → Is (orders (λ o. mailboxes (λ m. p o m))) → (o : RequestOrder) (m : Mailbox) → Is (p o m)
+each-of p h o m = each-mailbox (p o) (each-order (λ o. mailboxes (λ m. p o m)) h o) m
+
+pub each-two : (p : RequestOrder → Mailbox → Mailbox → Bool) → Is (orders (λ o. mailboxes (λ m. mailboxes (λ x. p o m x)))) → (o : RequestOrder) (m x : Mailbox) → Is (p o m x)
+each-two p h o = each-pair (p o) (each-order (λ o. mailboxes (λ m. mailboxes (λ x. p o m x))) h o)
 
 -- ---- numbers of mailboxes
 
 pub same-numbers : (a b : Mailbox) → eqb (number a) (number b) ≡ same a b
-same-numbers a b = beq-eq _ _ (each (λ o a b c. Bool·beq (eqb (number a) (number b)) (same a b)) refl Empty a b b)
+same-numbers a b = beq-eq _ _ (each-pair (λ a b. Bool·beq (eqb (number a) (number b)) (same a b)) refl a b)
 
 pub has-order : (o : RequestOrder) (m : Mailbox) → has (orderNumbers o) (number m) ≡ holds o m
-has-order o m = beq-eq _ _ (each (λ o m x y. Bool·beq (has (orderNumbers o) (number m)) (holds o m)) refl o m m m)
+has-order o m = beq-eq _ _ (each-of (λ o m. Bool·beq (has (orderNumbers o) (number m)) (holds o m)) refl o m)
 
 pub has-wire : (v : Sender) (m : Mailbox) → has (senderNumbers v) (number m) ≡ isFrom v m
 has-wire Nobody m = refl
-has-wire (From a) m = beq-eq _ _ (each (λ o a m c. Bool·beq (has (senderNumbers (From a)) (number m)) (isFrom (From a) m)) refl Empty a m m)
+has-wire (From a) m = beq-eq _ _ (each-pair (λ a m. Bool·beq (has (senderNumbers (From a)) (number m)) (isFrom (From a) m)) refl a m)
 
 -- ---- the definition's first and last
 
@@ -124,19 +137,19 @@ module _ (i : Identifiers) where
 
 in-order : (o : RequestOrder) → All (λ (x : Mailbox). holds o x ≡ true) o
 in-order Empty = tt
-in-order (One a) = imp-Is (each (λ o a b c. imp true (holds (One a) a)) refl Empty a a a) refl
-in-order (Two a b) = (imp-Is (each (λ o a b c. imp true (holds (Two a b) a)) refl Empty a b b) refl, imp-Is (each (λ o a b c. imp true (holds (Two a b) b)) refl Empty a b b) refl)
+in-order (One a) = each-mailbox (λ a. holds (One a) a) refl a
+in-order (Two a b) = (each-pair (λ a b. holds (Two a b) a) refl a b, each-pair (λ a b. holds (Two a b) b) refl a b)
 in-order (Three a b c) = (
-  imp-Is (each (λ o a b c. imp true (holds (Three a b c) a)) refl Empty a b c) refl,
-  imp-Is (each (λ o a b c. imp true (holds (Three a b c) b)) refl Empty a b c) refl,
-  imp-Is (each (λ o a b c. imp true (holds (Three a b c) c)) refl Empty a b c) refl,
+  each-triple (λ a b c. holds (Three a b c) a) refl a b c,
+  each-triple (λ a b c. holds (Three a b c) b) refl a b c,
+  each-triple (λ a b c. holds (Three a b c) c) refl a b c,
 )
 
 newest-held : (o : RequestOrder) (m : Mailbox) → isFrom (newest o) m ≡ true → holds o m ≡ true
-newest-held o m h = imp-Is (each (λ o m x y. imp (isFrom (newest o) m) (holds o m)) refl o m m m) h
+newest-held o m h = imp-Is (each-of (λ o m. imp (isFrom (newest o) m) (holds o m)) refl o m) h
 
 pub same-self : (m : Mailbox) → same m m ≡ true
-same-self m = imp-Is (each (λ o m b c. imp true (same m m)) refl Empty m m m) refl
+same-self m = each-mailbox (λ m. same m m) refl m
 
 is-from : (v : Sender) (m : Mailbox) → v ≡ From m → isFrom v m ≡ true
 is-from v m e = rw e (same-self m)
@@ -167,21 +180,21 @@ last-somebody false i (Three x y u) e = record { mailbox = later i (later i x y)
 
 oldest-earlier : (o : RequestOrder) (m x : Mailbox) → isFrom (oldest o) m ≡ true → holds o x ≡ true → same x m ≡ false → earlier (orderNumbers o) (number m) (number x) ≡ true
 oldest-earlier o m x a b c =
-    imp-Is (imp-Is (imp-Is (each (λ o m x y. imp (isFrom (oldest o) m) (imp (holds o x) (imp (not (same x m)) (earlier (orderNumbers o) (number m) (number x))))) refl o m x x) a) b) (not-Is c)
+    imp-Is (imp-Is (imp-Is (each-two (λ o m x. imp (isFrom (oldest o) m) (imp (holds o x) (imp (not (same x m)) (earlier (orderNumbers o) (number m) (number x))))) refl o m x) a) b) (not-Is c)
 
 -- the newest of those that are not on the wire
 newest-later : (v : Sender) (o : RequestOrder) (m x : Mailbox) → distinct o ≡ true → isFrom (newest (besides v o)) m ≡ true → holds (besides v o) x ≡ true → same x m ≡ false
     → earlier (orderNumbers o) (number x) (number m) ≡ true
 newest-later Nobody o m x d a b c =
     imp-Is (imp-Is (imp-Is (imp-Is
-    (each (λ o m x y. imp (distinct o) (imp (isFrom (newest o) m) (imp (holds o x) (imp (not (same x m)) (earlier (orderNumbers o) (number x) (number m)))))) refl o m x x) d) a) b) (not-Is c)
+    (each-two (λ o m x. imp (distinct o) (imp (isFrom (newest o) m) (imp (holds o x) (imp (not (same x m)) (earlier (orderNumbers o) (number x) (number m)))))) refl o m x) d) a) b) (not-Is c)
 newest-later (From y) o m x d a b c =
     imp-Is (imp-Is (imp-Is (imp-Is
     (each (λ o m x y. imp (distinct o) (imp (isFrom (newest (without o y)) m) (imp (holds (without o y) x) (imp (not (same x m)) (earlier (orderNumbers o) (number x) (number m)))))) refl o m x y) d) a) b) (not-Is c)
 
 earlier-one-way : (o : RequestOrder) (a b : Mailbox) → distinct o ≡ true → earlier (orderNumbers o) (number a) (number b) ≡ true → earlier (orderNumbers o) (number b) (number a) ≡ true → ⊥
 earlier-one-way o a b d h k =
-    opposed k (Is-not _ (imp-Is (imp-Is (each (λ o a b y. imp (distinct o) (imp (earlier (orderNumbers o) (number a) (number b)) (not (earlier (orderNumbers o) (number b) (number a))))) refl o a b b) d) h))
+    opposed k (Is-not _ (imp-Is (imp-Is (each-two (λ o a b. imp (distinct o) (imp (earlier (orderNumbers o) (number a) (number b)) (not (earlier (orderNumbers o) (number b) (number a))))) refl o a b) d) h))
 
 pub besides-held : (v : Sender) (o : RequestOrder) (m : Mailbox) → distinct o ≡ true → holds (besides v o) m ≡ holds o m && not (isFrom v m)
 besides-held Nobody o m d = and-true (holds o m)
@@ -189,7 +202,7 @@ besides-held Nobody o m d = and-true (holds o m)
     and-true : (b : Bool) → b ≡ b && true
     and-true true = refl
     and-true false = refl
-besides-held (From y) o m d = beq-eq _ _ (imp-Is (each (λ o y m x. imp (distinct o) (Bool·beq (holds (without o y) m) (holds o m && not (same y m)))) refl o y m m) d)
+besides-held (From y) o m d = beq-eq _ _ (imp-Is (each-two (λ o y m. imp (distinct o) (Bool·beq (holds (without o y) m) (holds o m && not (same y m)))) refl o y m) d)
 
 -- ---- priority as the registers show it
 
@@ -224,7 +237,7 @@ module _ (z : Controller) where
   precedes-by a b =
       ap₂ (λ (p q : Bool). pick p (earlier (orderNumbers order) (number a) (number b)) q) (ap (λ (w : ℕ). bit 2 w) mcr-read) (by-bits a b)
 
-  pending-by : (m : Mailbox) → isPending z m ≡ holds order m && not (isFrom wire m)
+  pub pending-by : (m : Mailbox) → isPending z m ≡ holds order m && not (isFrom wire m)
   pending-by m = ap₂ (λ (p q : Bool). p && not q) (has-order order m) (has-wire wire m)
 
   -- ---- the first
@@ -293,7 +306,7 @@ unfolding settled started
 starts-first z h =
     let s = start-accepted z h in
     record {
-      word = record { mailbox = s .mailbox; named = s .word; meets = is-first z (s .mailbox) (s .may .free) (s .is) };
+      word = record { mailbox = s .mailbox; meets = (s .word, is-first z (s .mailbox) (s .may .free) (s .is)) };
       wire = ap (λ (c : Core). senderNumbers (c .transmit .queue .transmitting)) (s .core) ∙ ap (λ (n : ℕ). n ∷ []) (sym (s .word));
       kept = ap (λ (c : Core). orderNumbers (c .transmit .queue .order)) (s .core);
     }

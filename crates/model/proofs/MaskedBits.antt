@@ -3,9 +3,8 @@ use mathlib.Core.Bool.{Bool, true, false, _&&_}
 use mathlib.Core.Path.{_≡_, refl, sym, ap, ap₂, subst, _∙_}
 use Prim.Native.Nat.{ℕ, zero, suc, _+_, _*_, _-_, _/_, _%_, _^_, _<_, _≤_, min}
 use native.Mathlib.Omega.{arith}
-use native.Mathlib.Numerals.{one-add}
 use lib.Dec.{eqb, ltb}
-use lib.Bits.{bitAnd, and-mask}
+use lib.Bits.{and-mask}
 use lib.Pow.{shr-shr, high, low, field, mod-mod-pow}
 use borrow.Author.Tests.{ltb-true, ltb-false}
 use Rattle.model.specs.Base.{bit, bits}

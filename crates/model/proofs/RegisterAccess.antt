@@ -10,13 +10,13 @@ use Rattle.model.specs.Queue.{number, isEmpty}
 use Rattle.model.specs.Mailboxes.{identifiers, sooner, firstInWireOrder, first, firstOf, started}
 use Rattle.model.specs.Control.{txfp}
 use Rattle.model.specs.Control as control
-use Rattle.model.specs.Registers.{registerAt, isAbsent, written, writeRefusal, readWord, isFree, withTransmit}
+use Rattle.model.specs.Registers.{registerAt, isAbsent, written, writeRefusal, readWord, withTransmit}
 use Rattle.model.specs.Step.{step, answered, coreAfter, refusal, wordOf, applied, settled, startedBy, mayStart}
 use Rattle.model.specs.Codes.{offsetOf, IsPresent}
 use Rattle.model.specs.ReadBack.{reads, Accepts, afterWrite}
 use Rattle.model.specs.declared.Mailbox.{Mailbox}
 use Rattle.model.specs.declared.Sender.{Sender}
-use Rattle.model.specs.declared.Sender.the-variants.{Nobody, From}
+use Rattle.model.specs.declared.Sender.the-variants.{From}
 use Rattle.model.specs.declared.RequestOrder.{RequestOrder}
 use Rattle.model.specs.declared.RequestOrder.the-variants.{Empty, One, Two, Three}
 use Rattle.model.specs.declared.Identifiers.{Identifiers}
@@ -25,8 +25,8 @@ use Rattle.model.specs.declared.Core.{Core}
 use Rattle.model.specs.declared.Controller.{Controller}
 use Rattle.model.specs.declared.Register.{Register}
 use Rattle.model.specs.declared.Step as steps
-use Rattle.model.specs.declared.Step.the-variants.{Read, Write, Start}
-use Rattle.model.proofs.Choices.{Is, opposed, pick-cases}
+use Rattle.model.specs.declared.Step.the-variants.{Start}
+use Rattle.model.proofs.Choices.{opposed, pick-cases}
 use Rattle.model.proofs.Mapped.{map}
 use Rattle.model.proofs.Follows.{Startable, startable}
 

@@ -1,18 +1,15 @@
 -- What TSR shows: the flags of each mailbox, CODE, TME and LOW.
-use mathlib.Core.Bool.{Bool, true, false, not, _&&_, _||_, Bool·beq, true≢false, false≢true}
-use mathlib.Core.List.{List, [], _∷_}
+use mathlib.Core.Bool.{Bool, true, false, not, true≢false, false≢true}
 use mathlib.Core.Path.{_≡_, refl, sym, ap, _∙_}
 use Prim.Native.Nat.{ℕ, _+_, _*_, _<_, _≤_}
 use native.Mathlib.Omega.{arith}
-use lib.Dec.{eqb}
 use lib.ListN.{length}
-use Rattle.model.specs.Base.{pick, bit, bits}
-use Rattle.model.specs.Queue.{number, same, flag, holds, without, isFrom, isEmpty, twoOrMore, besides, senderNumber, orderNumbers, senderNumbers}
-use Rattle.model.specs.Mailboxes.{at, identifiers, lastOf, tme, low, code, tsr}
+use Rattle.model.specs.Base.{bit, bits}
+use Rattle.model.specs.Queue.{number, flag, holds, without, isFrom, isEmpty, twoOrMore, besides, orderNumbers, senderNumbers}
+use Rattle.model.specs.Mailboxes.{at, identifiers, lastOf, tme, low, code}
 use Rattle.model.specs.Control.{txfp}
 use Rattle.model.specs.Reachable.{distinct, InRange}
-use Rattle.model.specs.ReadBack.{reads}
-use Rattle.model.specs.Arbitration.{requests, onWire, has, isPending, IsLast, Names}
+use Rattle.model.specs.Arbitration.{requests, IsLast, Some}
 use Rattle.model.specs.TransmitStatus.{statusBit, rqcpOf, txokOf, alstOf, terrOf, abrqOf, codeOf, tmeOf, lowOf, StatusWord}
 use Rattle.model.specs.declared.Mailbox.{Mailbox}
 use Rattle.model.specs.declared.Mailbox.the-variants.{M0, M1, M2}
@@ -22,12 +19,11 @@ use Rattle.model.specs.declared.RequestOrder.{RequestOrder}
 use Rattle.model.specs.declared.RequestOrder.the-variants.{Empty, One, Two, Three}
 use Rattle.model.specs.declared.Transmit.{Transmit}
 use Rattle.model.specs.declared.Controller.{Controller}
-use Rattle.model.proofs.Choices.{Is, imp, imp-Is, not-Is, Is-not, and-l, and-r, beq-eq}
-use Rattle.model.proofs.Orders.{each, same-eq}
-use Rattle.model.proofs.RegisterAccess.{Somebody}
-use Rattle.model.proofs.StatusWord.{Status, bits-of, code-bits}
+use Rattle.model.proofs.Choices.{imp, imp-Is, Is-not, and-l, and-r}
+use Rattle.model.proofs.Orders.{each-order, same-eq}
+use Rattle.model.proofs.StatusWord.{bits-of, code-bits}
 use Rattle.model.proofs.WordsKept.{tsr-read}
-use Rattle.model.proofs.Arbitrated.{has-order, same-self, besides-held, last-somebody, is-last, last-unique, waiting-by}
+use Rattle.model.proofs.Arbitrated.{each-of, has-order, same-self, last-somebody, is-last, last-unique, waiting-by}
 
 -- ---- the flags
 
@@ -66,19 +62,19 @@ from-is Nobody m h = absurd (false≢true h)
 from-is (From a) m h = ap From (same-eq a m h)
 
 held-some : (o : RequestOrder) (m : Mailbox) → holds o m ≡ true → isEmpty o ≡ false
-held-some o m h = Is-not _ (imp-Is (each (λ o m x y. imp (holds o m) (not (isEmpty o))) refl o m m m) h)
+held-some o m h = Is-not _ (imp-Is (each-of (λ o m. imp (holds o m) (not (isEmpty o))) refl o m) h)
 
--- of three at least two are not on the wire
-three-some : (v : Sender) (o : RequestOrder) → holds o M0 ≡ true → holds o M1 ≡ true → holds o M2 ≡ true → isEmpty (besides v o) ≡ false
-three-some Nobody o a b c = held-some o M0 a
-three-some (From y) o a b c = Is-not _ (imp-Is (imp-Is (imp-Is (each (λ o y m x. imp (holds o M0) (imp (holds o M1) (imp (holds o M2) (not (isEmpty (without o y)))))) refl o y y y) a) b) c)
+-- of two or more one at least is not on the wire
+two-some : (v : Sender) (o : RequestOrder) → distinct o ≡ true → twoOrMore o ≡ true → isEmpty (besides v o) ≡ false
+two-some Nobody o d h = Is-not _ (imp-Is (each-order (λ o. imp (twoOrMore o) (not (isEmpty o))) refl o) h)
+two-some (From y) o d h = Is-not _ (imp-Is (imp-Is (each-of (λ o y. imp (distinct o) (imp (twoOrMore o) (not (isEmpty (without o y))))) refl o y) d) h)
+
+three-two : (o : RequestOrder) → holds o M0 ≡ true → holds o M1 ≡ true → holds o M2 ≡ true → twoOrMore o ≡ true
+three-two o a b c = imp-Is (imp-Is (imp-Is (each-order (λ o. imp (holds o M0) (imp (holds o M1) (imp (holds o M2) (twoOrMore o)))) refl o) a) b) c
 
 not-false : (b : Bool) → not b ≡ false → b ≡ true
 not-false true h = refl
 not-false false h = absurd (true≢false h)
-
-not-true : (b : Bool) → not b ≡ true → b ≡ false
-not-true b h = Is-not b h
 
 two-long : (o : RequestOrder) → twoOrMore o ≡ true → 2 ≤ length (orderNumbers o)
 two-long Empty h = absurd (false≢true h)
@@ -110,12 +106,12 @@ module _ (z : Controller) (i : InRange z) where
   lowest-empty M1 h f = rw (f M0 (omega arith), h)
   lowest-empty M2 h f = rw (f M0 (omega arith), f M1 (omega arith), h)
 
-  none-empty : ((x : Mailbox) → tme t x ≡ false) → Names (IsLast z) (code p t)
+  none-empty : ((x : Mailbox) → tme t x ≡ false) → Some (λ x. (code p t ≡ number x) × IsLast z x)
   unfolding code
   none-empty f =
       let s = last-somebody p (identifiers (t .mailboxes)) (besides (t .queue .transmitting) (t .queue .order))
-      (three-some (t .queue .transmitting) (t .queue .order) (not-false _ (f M0)) (not-false _ (f M1)) (not-false _ (f M2))) in
-      record { mailbox = s .mailbox; named = rw (f M0, f M1, f M2, s .is); meets = is-last z d (s .mailbox) (s .is) }
+      (two-some (t .queue .transmitting) (t .queue .order) d (three-two (t .queue .order) (not-false _ (f M0)) (not-false _ (f M1)) (not-false _ (f M2)))) in
+      record { mailbox = s .mailbox; meets = (rw (f M0, f M1, f M2, s .is), is-last z d (s .mailbox) (s .is)) }
 
   shows-last : (m : Mailbox) → low p t m ≡ true → (2 ≤ length (requests z)) × IsLast z m
   unfolding low
@@ -132,6 +128,11 @@ module _ (z : Controller) (i : InRange z) where
       let e : s .mailbox ≡ m = last-unique z d (s .mailbox) m (is-last z d (s .mailbox) (s .is)) l in
       rw (long-two (t .queue .order) n, s .is, e) (same-self m)
 
+  some-last : 2 ≤ length (requests z) → Some (λ x. lowOf z x ≡ true)
+  some-last n =
+      let s = last-somebody p (identifiers (t .mailboxes)) (besides (t .queue .transmitting) (t .queue .order)) (two-some (t .queue .transmitting) (t .queue .order) d (long-two (t .queue .order) n)) in
+      record { mailbox = s .mailbox; meets = shown z (s .mailbox) .low ∙ last-shown (s .mailbox) n (is-last z d (s .mailbox) (s .is)) }
+
   pub status-word : (m : Mailbox) → StatusWord z m
   status-word m = record {
     tme = shown z m .tme ∙ ap not (sym (has-order (t .queue .order) m));
@@ -139,6 +140,7 @@ module _ (z : Controller) (i : InRange z) where
     codeFull = λ f. rw (code-shown z) (none-empty (λ x. sym (shown z x .tme) ∙ f x));
     low = λ h. shows-last m (sym (shown z m .low) ∙ h);
     lowest = λ n l. shown z m .low ∙ last-shown m n l;
+    lowSome = some-last;
     abrq = λ h. ap senderNumbers (from-is (t .queue .transmitting) m (i .core .transmit .queue .aborts m (sym (shown z m .abrq) ∙ h)));
     reserved = shown z m .reserved;
   }

@@ -1,23 +1,24 @@
 -- What TSR writes, TI writes, a master reset and an own end do to the flags and the requests; nothing else does.
-use mathlib.Core.Bool.{Bool, true, false, not, _&&_, _||_, Bool·beq, true≢false, false≢true, or-true, or-false, and-false}
+use mathlib.Core.Bool.{Bool, true, false, not, _&&_, _||_, Bool·beq, true≢false, false≢true, or-true, or-false}
 use mathlib.Core.List.{List, [], _∷_, _++_}
 use mathlib.Core.Path.{_≡_, refl, sym, ap, ap₂, _∙_}
 use Prim.Native.Nat.{ℕ, _+_, _*_, _<_, _≤_}
 use native.Mathlib.Omega.{arith}
 use lib.Dec.{eqb, ltb, leb}
 use lib.ListN.{length}
-use borrow.Author.Tests.{eqb-true, eqb-false, ltb-false, eq-eqb}
+use borrow.Author.Tests.{eqb-true, ltb-false}
 use Rattle.model.specs.Base.{pick, bit}
 use Rattle.model.specs.Queue.{number, same, flag, flagged, holds, joined, without, isFrom, noFlags, requested, emptied, remembered, aborted, abortedAll, offWire, orderNumbers, senderNumbers}
-use Rattle.model.specs.Mailboxes.{at, put, tiWritten, tdtWritten, tdlWritten, tdhWritten, requestedBy, cleared, completed, tsrWritten, abrq, dropped, started, over, outcomeFlags, ended}
-use Rattle.model.specs.Control.{nart, masterReset}
-use Rattle.model.specs.Registers.{registerAt, isAbsent, coreReset, written, writeRefusal, readWord}
+use Rattle.model.specs.Mailboxes.{at, tiWritten, tdtWritten, tdlWritten, tdhWritten, requestedBy, cleared, completed, tsrWritten, abrq, dropped, started, over, outcomeFlags, ended}
+use Rattle.model.specs.Control.{nart}
+use Rattle.model.specs.Registers.{registerAt, coreReset, written, writeRefusal}
 use Rattle.model.specs.Step.{step, answered, coreAfter, refusal, applied, settled, storedBy, startedBy, endedBy, mayEnd}
 use Rattle.model.specs.Codes.{offsetOf}
+use Rattle.model.specs.Requests.{Event, nothing, event, entry}
 use Rattle.model.specs.Reachable.{distinct, carried, QueueRange, InRange}
-use Rattle.model.specs.ReadBack.{reads, Accepts, afterWrite}
-use Rattle.model.specs.Arbitration.{requests, onWire, has, isPending}
-use Rattle.model.specs.TransmitStatus.{rqcpOf, txokOf, alstOf, terrOf, abrqOf, except, asksAbort, TsrWrite, TiWrite, Dropped, endsRequest, afterEnd, OwnEnd, concerns, FlagsStay}
+use Rattle.model.specs.ReadBack.{Accepts, afterWrite, has}
+use Rattle.model.specs.Arbitration.{requests, onWire, isPending}
+use Rattle.model.specs.TransmitStatus.{except, asksAbort, TsrWrite, TiWrite, Dropped, endsRequest, afterEnd, OwnEnd, concerns, FlagsStay, RequestsStay}
 use Rattle.model.specs.declared.Mailbox.{Mailbox}
 use Rattle.model.specs.declared.Mailbox.the-variants.{M0, M1, M2}
 use Rattle.model.specs.declared.Sender.{Sender}
@@ -27,7 +28,6 @@ use Rattle.model.specs.declared.RequestOrder.the-variants.{Empty, One, T
 use Rattle.model.specs.declared.MailboxBits.{MailboxBits}
 use Rattle.model.specs.declared.Queue.{Queue}
 use Rattle.model.specs.declared.MailboxState.{MailboxState}
-use Rattle.model.specs.declared.Mailboxes.{Mailboxes}
 use Rattle.model.specs.declared.Transmit.{Transmit}
 use Rattle.model.specs.declared.Core.{Core}
 use Rattle.model.specs.declared.Controller.{Controller}
@@ -36,14 +36,16 @@ use Rattle.model.specs.declared.Register.{Register}
 use Rattle.model.specs.declared.Register.the-variants.{Mcr, Msr, Tsr, Rfr, Ier, Esr, Btr, Ti, Tdt, Tdl, Tdh, Ri, Rdt, Rdl, Rdh, Fmr, Fm1r, Fs1r, Ffa1r, Fa1r, R1, R2, Absent}
 use Rattle.model.specs.declared.Step as steps
 use Rattle.model.specs.declared.Step.the-variants.{Reset, Read, Write, Idle, BitTimes, Activity, Start, Outcome, Receive, ReceiveError}
-use Rattle.model.proofs.Choices.{Is, imp, imp-Is, not-Is, Is-not, and-l, and-r, or-l, or-r, beq-eq, opposed, pick-cases}
+use Rattle.model.proofs.Choices.{imp, imp-Is, not-Is, and-l, and-r, or-l, or-r, beq-eq, opposed, pick-cases}
 use Rattle.model.proofs.Bounded.{allBelow, each-below}
-use Rattle.model.proofs.Orders.{orders, mailboxes, each-order, each-mailbox, each, same-eq}
+use Rattle.model.proofs.Orders.{orders, mailboxes, each-order, each-mailbox, same-eq}
 use Rattle.model.proofs.QueueRanges.{aborted-range, aborted-wire, aborted-all-wire}
-use Rattle.model.proofs.RegisterAccess.{read-word, write-core, accepts, accepted, elsewhere, step-keeps}
+use Rattle.model.proofs.Views.{View, viewNext}
+use Rattle.model.proofs.Follows.{viewOf, follows}
+use Rattle.model.proofs.RegisterAccess.{write-core, accepts, accepted, elsewhere, step-keeps}
 use Rattle.model.proofs.WordsKept.{put-there, put-field, number-eq}
-use Rattle.model.proofs.Arbitrated.{same-numbers, has-order, has-wire, same-self, mcr-read}
-use Rattle.model.proofs.StatusShown.{shown, from-is}
+use Rattle.model.proofs.Arbitrated.{pending-by, each-of, has-wire, same-self, mcr-read}
+use Rattle.model.proofs.StatusShown.{shown}
 
 -- ---- lists of numbers, by computed tests
 
@@ -60,10 +62,10 @@ list-eq (x ∷ a) [] h = absurd (false≢true h)
 list-eq (x ∷ a) (y ∷ b) h = ap₂ (λ (u : ℕ) (v : List ℕ). u ∷ v) (eqb-true x y (and-l (eqb x y) (sameList a b) h)) (list-eq a b (and-r (eqb x y) (sameList a b) h))
 
 joined-numbers : (o : RequestOrder) (m : Mailbox) → distinct o ≡ true → holds o m ≡ false → orderNumbers (joined o m) ≡ orderNumbers o ++ number m ∷ []
-joined-numbers o m d n = list-eq _ _ (imp-Is (imp-Is (each (λ o m x y. imp (distinct o) (imp (not (holds o m)) (sameList (orderNumbers (joined o m)) (orderNumbers o ++ number m ∷ [])))) refl o m m m) d) (not-Is n))
+joined-numbers o m d n = list-eq _ _ (imp-Is (imp-Is (each-of (λ o m. imp (distinct o) (imp (not (holds o m)) (sameList (orderNumbers (joined o m)) (orderNumbers o ++ number m ∷ [])))) refl o m) d) (not-Is n))
 
 without-numbers : (o : RequestOrder) (m : Mailbox) → distinct o ≡ true → orderNumbers (without o m) ≡ except (λ n. eqb n (number m)) (orderNumbers o)
-without-numbers o m d = list-eq _ _ (imp-Is (each (λ o m x y. imp (distinct o) (sameList (orderNumbers (without o m)) (except (λ n. eqb n (number m)) (orderNumbers o)))) refl o m m m) d)
+without-numbers o m d = list-eq _ _ (imp-Is (each-of (λ o m. imp (distinct o) (sameList (orderNumbers (without o m)) (except (λ n. eqb n (number m)) (orderNumbers o)))) refl o m) d)
 
 -- ---- ABRQ and the requests
 
@@ -217,9 +219,6 @@ module _ (t : Transmit) (w : ℕ) where
   tsr-cleared M0 = let e = and-assoc (bit 7 w) (holds (t .queue .order) M0) (not (isFrom (t .queue .transmitting) M0)) in record { rqcp = rw e; txok = rw e; alst = refl; terr = refl }
   tsr-cleared M1 = let e = and-assoc (bit 15 w) (holds (t .queue .order) M1) (not (isFrom (t .queue .transmitting) M1)) in record { rqcp = rw e; txok = rw e; alst = refl; terr = refl }
   tsr-cleared M2 = let e = and-assoc (bit 23 w) (holds (t .queue .order) M2) (not (isFrom (t .queue .transmitting) M2)) in record { rqcp = rw e; txok = rw e; alst = refl; terr = refl }
-
-pending-by : (z : Controller) (m : Mailbox) → isPending z m ≡ holds (z .core .transmit .queue .order) m && not (isFrom (z .core .transmit .queue .transmitting) m)
-pending-by z m = ap₂ (λ (p q : Bool). p && not q) (has-order (z .core .transmit .queue .order) m) (has-wire (z .core .transmit .queue .transmitting) m)
 
 tsr-after : (z : Controller) (w : ℕ) → afterWrite z Tsr w .core .transmit ≡ tsrWritten (z .core .transmit) w
 unfolding settled written writeRefusal
@@ -461,4 +460,14 @@ flags-stay z s m h =
       txok = v .txok ∙ ap (λ (x : Flags). x .txok) e ∙ sym (u .txok);
       alst = v .alst ∙ ap (λ (x : Flags). x .alst) e ∙ sym (u .alst);
       terr = v .terr ∙ ap (λ (x : Flags). x .terr) e ∙ sym (u .terr);
+    }
+
+pub requests-stay : (z : Controller) (s : steps.Step) → event (entry s (step z s)) ≡ nothing → RequestsStay z s
+requests-stay z s h =
+    let y : Controller = step z s .controller in
+    let e : y .core .transmit .queue ≡ z .core .transmit .queue = ap (λ (v : View). v .queue) (follows z s .view ∙ ap (λ (x : Event). viewNext (viewOf (z .core)) x) h) in
+    record {
+      requests = ap (λ (q : Queue). orderNumbers (q .order)) e;
+      wire = ap (λ (q : Queue). senderNumbers (q .transmitting)) e;
+      abrq = λ m. shown y m .abrq ∙ ap (λ (q : Queue). flag (q .aborts) m) e ∙ sym (shown z m .abrq);
     }

@@ -4,9 +4,8 @@ use mathlib.Core.List.{List, [], _∷_}
 use mathlib.Core.Path.{_≡_, refl, sym, ap, _∙_}
 use Prim.Native.Nat.{ℕ, zero, suc, _+_, _*_, _/_, _%_, _^_, _≤_}
 use native.Mathlib.Omega.{arith}
-use lib.Dec.{eqb}
 use borrow.Author.Tests.{eqb-true, eqb-false}
-use Rattle.model.specs.Base.{pick, bit, bits, one}
+use Rattle.model.specs.Base.{bit, bits, one}
 use Rattle.model.specs.Queue.{number, senderNumber, flag}
 use Rattle.model.specs.Mailboxes.{at, tme, low, code, tsrByte, tsr, lastOf}
 use Rattle.model.specs.declared.Mailbox.{Mailbox}

@@ -1,21 +1,19 @@
 -- The words of a mailbox read back; only a write to a word, a reset and, for TIME, a start change them.
-use mathlib.Core.Bool.{Bool, true, false, not, _&&_, true≢false, false≢true}
+use mathlib.Core.Bool.{Bool, true, false, not, true≢false, false≢true}
 use mathlib.Core.List.{List}
 use mathlib.Core.Path.{_≡_, refl, sym, ap, subst, _∙_}
 use Prim.Native.Nat.{ℕ, suc, _+_, _*_, _/_, _%_, _^_, _<_}
 use native.Mathlib.Omega.{arith}
-use native.Mathlib.Numerals.{one-add}
 use lib.Dec.{eqb}
-use borrow.Author.Tests.{eqb-true, eqb-false, eq-eqb, ne-eqb}
-use Rattle.model.specs.Base.{pick, bit, bits, one}
-use Rattle.model.specs.Queue.{number, holds, offWire}
+use borrow.Author.Tests.{eqb-true, eq-eqb}
+use Rattle.model.specs.Base.{bit, bits, one}
+use Rattle.model.specs.Queue.{number, holds}
 use Rattle.model.specs.Mailboxes.{at, put, withWords, tiWritten, tdtWritten, tdlWritten, tdhWritten, tdtMasked, requestedBy, cleared, completed, tsrWritten, started, outcomeFlags, ended, tsr, tiWord}
-use Rattle.model.specs.Control.{txfp, entered, idled, counted, ticked, woken, errorsChanged, masterReset, mcrWritten, msrWritten, ierWritten, btrWritten}
-use Rattle.model.specs.Registers.{registerAt, isAbsent, coreReset, written, readWord, isFree}
+use Rattle.model.specs.Control.{txfp}
+use Rattle.model.specs.Registers.{registerAt, isAbsent, coreReset, written, readWord}
 use Rattle.model.specs.Step.{step, answered, coreAfter, refusal, applied, settled, storedBy, startedBy, endedBy}
 use Rattle.model.specs.Codes.{offsetOf}
-use Rattle.model.specs.Reachable.{InRange}
-use Rattle.model.specs.ReadBack.{reads, Accepts, afterWrite, Within, sets, Stays}
+use Rattle.model.specs.ReadBack.{reads, Accepts, afterWrite, Within, sets}
 use Rattle.model.specs.MailboxWords.{MailboxWords, starts, MailboxStays}
 use Rattle.model.specs.declared.Mailbox.{Mailbox}
 use Rattle.model.specs.declared.Mailbox.the-variants.{M0, M1, M2}

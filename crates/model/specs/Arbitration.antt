@@ -9,7 +9,7 @@ use Rattle.model.specs.Base.{pick, bit}
 use Rattle.model.specs.Queue.{number, orderNumbers, senderNumbers}
 use Rattle.model.specs.Mailboxes.{identifier, before, sentIdentifier}
 use Rattle.model.specs.Step.{step}
-use Rattle.model.specs.ReadBack.{reads}
+use Rattle.model.specs.ReadBack.{reads, has}
 use Rattle.model.specs.declared.Mailbox.{Mailbox}
 use Rattle.model.specs.declared.Identifiers.{Identifiers}
 use Rattle.model.specs.declared.Controller.{Controller}
@@ -62,10 +62,6 @@ requests z = orderNumbers (z .core .transmit .queue .order)
 abbrev pub onWire : Controller → List ℕ
 onWire z = senderNumbers (z .core .transmit .queue .transmitting)
 
-abbrev pub has : List ℕ → ℕ → Bool
-has [] n = false
-has (x ∷ l) n = eqb x n || has l n
-
 -- not empty, and not on the wire
 abbrev pub isPending : Controller → Mailbox → Bool
 isPending z m = has (requests z) (number m) && not (has (onWire z) (number m))
@@ -90,14 +86,13 @@ pub record IsLast (z : Controller) (m : Mailbox) : Type 0 where
   pub pending : isPending z m ≡ true
   pub behind : (x : Mailbox) → isPending z x ≡ true → eqb (number x) (number m) ≡ false → precedes z x m ≡ true
 
--- n is the number of a mailbox of which P holds
-pub record Names (P : Mailbox → Type 0) (n : ℕ) : Type 0 where
+-- P holds of some mailbox
+pub record Some (P : Mailbox → Type 0) : Type 0 where
   pub mailbox : Mailbox
-  pub named : n ≡ number mailbox
   pub meets : P mailbox
 
 -- an accepted start: "The first in priority goes on the wire .. the word is its number"; its request stays in its place
 pub record StartsFirst (z : Controller) : Type 0 where
-  pub word : Names (IsFirst z) (step z Start .word)
+  pub word : Some (λ m. (step z Start .word ≡ number m) × IsFirst z m)
   pub wire : onWire (step z Start .controller) ≡ step z Start .word ∷ []
   pub kept : requests (step z Start .controller) ≡ requests z

@@ -1,5 +1,5 @@
--- The register map and the refusal numbers, read the other way: the offset of each register, and when each code is given.
--- Document 01: "Register map" (its first lines), "Refusal numbers" (the table).
+-- The register map and the refusal numbers, read the other way: the offset of each register, when each code is given, and the word.
+-- Document 01: "Register map" (its first lines), "Refusal numbers", "Bus events" (what code 4 says of each event).
 use mathlib.Core.Bool.{Bool, true, false, not, _&&_, _||_}
 use mathlib.Core.Path.{_≡_}
 use Prim.Native.Nat.{ℕ, _+_, _*_, _%_, _≤_}
@@ -92,7 +92,7 @@ pub record Map : Type 0 where
   pub found : (r : Register) → IsPresent r → registerAt (offsetOf r) ≡ r
   pub only : (o : ℕ) → isAbsent (registerAt o) ≡ false → offsetOf (registerAt o) ≡ o
 
--- ---- the state as registers show it
+-- ---- the state as registers show it, the bits at the places of 000
 
 -- the word that a read gives
 abbrev pub shown : Controller → ℕ → ℕ
@@ -237,22 +237,24 @@ outOfRange (Outcome r) = ltb 7 r
 outOfRange (Receive x) = bit 0 (x .identifier) || (not (bit 2 (x .identifier)) && not (eqb (bits 3 18 (x .identifier)) 0)) || ltb 15 (x .length)
 outOfRange (ReceiveError k n) = not (leb 1 k && leb k 6 && (eqb n 1 || eqb n 8))
 
--- Normal and not bus-off, with no own frame on the wire
+-- Normal, not bus-off, none on the wire
 abbrev pub isReady : Controller → Bool
 isReady z = not (inak z) && not (slak z) && not (boff z) && not (txm z)
 
--- some mailbox isn't empty
+-- at least one mailbox isn't empty
 abbrev pub anyPending : Controller → Bool
 anyPending z = not (tme z M0) || not (tme z M1) || not (tme z M2)
 
--- what a start needs, and what a frame from the bus and a receive error need
+-- a start: one pending besides, and not SILM=1 with LBKM=0
 abbrev pub canStart : Controller → Bool
 canStart z = isReady z && anyPending z && not (silm z && not (lbkm z))
 
+-- a frame, and a receive error: LBKM=0 and FINIT=0 besides
 abbrev pub canReceive : Controller → Bool
 canReceive z = isReady z && not (lbkm z) && not (finit z)
 
--- 4: event that the state can't have
+-- 4: event that the state can't have. Idle with an own frame on the wire; activity outside Sleep; an own end with none on the wire,
+-- and 3 with LBKM=1
 abbrev pub cannotBe : steps.Step → Controller → Bool
 cannotBe Reset z = false
 cannotBe (Read o) z = false

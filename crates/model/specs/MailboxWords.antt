@@ -35,7 +35,7 @@ starts z (Outcome r) m = false
 starts z (Receive x) m = false
 starts z (ReceiveError k n) m = false
 
--- what a step does to the words of mailbox m
+-- the words of mailbox m, and what a step does to them
 pub record MailboxStays (z : Controller) (s : steps.Step) (m : Mailbox) : Type 0 where
   -- TXRQ reads 1 exactly while the mailbox isn't empty
   pub txrq : bit 0 (reads z (Ti m)) ≡ not (bit (26 + number m) (reads z Tsr))
@@ -44,6 +44,6 @@ pub record MailboxStays (z : Controller) (s : steps.Step) (m : Mailbox) : Type 0
   pub tdt : sets s (Tdt m) ≡ false → bits 0 16 (reads (step z s .controller) (Tdt m)) ≡ bits 0 16 (reads z (Tdt m))
   pub tdl : sets s (Tdl m) ≡ false → Stays z s (Tdl m)
   pub tdh : sets s (Tdh m) ≡ false → Stays z s (Tdh m)
-  -- at a start TIME takes the timer, and so does that of no other mailbox
+  -- at its start TIME takes the timer; that of no other mailbox changes
   pub time : starts z s m ≡ true → InRange z → bits 16 16 (reads (step z s .controller) (Tdt m)) ≡ z .core .control .timer
   pub notStarted : sets s (Tdt m) ≡ false → starts z s m ≡ false → Stays z s (Tdt m)

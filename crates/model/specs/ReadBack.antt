@@ -1,6 +1,7 @@
 -- What was written to a register reads back within its writable bits, and only a write to it, or a reset, changes it.
 -- Document 01: "Register map" (hardware reset, writable bits). A register is meant by its offset.
-use mathlib.Core.Bool.{Bool, true, false, _&&_}
+use mathlib.Core.Bool.{Bool, true, false, _&&_, _||_}
+use mathlib.Core.List.{List, [], _∷_}
 use mathlib.Core.Path.{_≡_}
 use Prim.Native.Nat.{ℕ, _+_}
 use lib.Dec.{eqb}
@@ -62,8 +63,9 @@ sets (ReceiveError k n) r = false
 abbrev pub Stays : Controller → steps.Step → Register → Type 0
 Stays z s r = reads (step z s .controller) r ≡ reads z r
 
--- no other step changes one of these
+-- no other step changes one of these, but that activity may clear SLEEP, bit 1 of MCR
 pub record OnlyWrites (z : Controller) (s : steps.Step) : Type 0 where
+  pub mcr : sets s Mcr ≡ false → (i : ℕ) → eqb i 1 ≡ false → bit i (reads (step z s .controller) Mcr) ≡ bit i (reads z Mcr)
   pub ier : sets s Ier ≡ false → Stays z s Ier
   pub btr : sets s Btr ≡ false → Stays z s Btr
   pub fmr : sets s Fmr ≡ false → Stays z s Fmr
@@ -74,6 +76,10 @@ pub record OnlyWrites (z : Controller) (s : steps.Step) : Type 0 where
 
 -- ---- "Hardware reset: MCR 0x00010002, MSR 0x00000C02, TSR 0x1C000000, BTR 0x01230000, FMR 0x2A1C0E01, all else 0"
 
+abbrev pub has : List ℕ → ℕ → Bool
+has [] n = false
+has (x ∷ l) n = eqb x n || has l n
+
 abbrev pub afterReset : Controller → ℕ → ℕ
 afterReset z o = step (step z Reset .controller) (Read o) .word
 
@@ -83,4 +89,4 @@ pub record ResetWords (z : Controller) : Type 0 where
   pub tsr : afterReset z (offsetOf Tsr) ≡ 0x1C000000
   pub btr : afterReset z (offsetOf Btr) ≡ 0x01230000
   pub fmr : afterReset z (offsetOf Fmr) ≡ 0x2A1C0E01
-  pub others : (o : ℕ) → eqb o 0x000 ≡ false → eqb o 0x004 ≡ false → eqb o 0x008 ≡ false → eqb o 0x01C ≡ false → eqb o 0x200 ≡ false → afterReset z o ≡ 0
+  pub others : (o : ℕ) → has (0x000 ∷ 0x004 ∷ 0x008 ∷ 0x01C ∷ 0x200 ∷ []) o ≡ false → afterReset z o ≡ 0

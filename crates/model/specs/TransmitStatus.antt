@@ -11,8 +11,8 @@ use Rattle.model.specs.Base.{pick, bit, bits}
 use Rattle.model.specs.Queue.{number}
 use Rattle.model.specs.Step.{step}
 use Rattle.model.specs.Codes.{offsetOf}
-use Rattle.model.specs.ReadBack.{reads, Accepts, afterWrite}
-use Rattle.model.specs.Arbitration.{requests, onWire, has, isPending, IsLast, Names}
+use Rattle.model.specs.ReadBack.{reads, afterWrite, has}
+use Rattle.model.specs.Arbitration.{requests, onWire, isPending, IsLast, Some}
 use Rattle.model.specs.declared.Mailbox.{Mailbox}
 use Rattle.model.specs.declared.Controller.{Controller}
 use Rattle.model.specs.declared.Register.the-variants.{Mcr, Tsr, Ti}
@@ -52,13 +52,14 @@ lowOf z m = bit (29 + number m) (reads z Tsr)
 -- ---- TME, CODE and LOW
 
 -- "CODE: lowest empty mailbox, else the lowest in priority. LOW: with two or more not empty, the lowest in priority. For both, one on
--- the wire stands first." So the lowest in priority is the last of the pending ones
+-- the wire stands first." So the lowest in priority is the last of the pending ones. In every state that is reached (`InRange`)
 pub record StatusWord (z : Controller) (m : Mailbox) : Type 0 where
   pub tme : tmeOf z m ≡ not (has (requests z) (number m))
   pub codeEmpty : tmeOf z m ≡ true → ((x : Mailbox) → number x < number m → tmeOf z x ≡ false) → codeOf z ≡ number m
-  pub codeFull : ((x : Mailbox) → tmeOf z x ≡ false) → Names (IsLast z) (codeOf z)
+  pub codeFull : ((x : Mailbox) → tmeOf z x ≡ false) → Some (λ x. (codeOf z ≡ number x) × IsLast z x)
   pub low : lowOf z m ≡ true → (2 ≤ length (requests z)) × IsLast z m
   pub lowest : 2 ≤ length (requests z) → IsLast z m → lowOf z m ≡ true
+  pub lowSome : 2 ≤ length (requests z) → Some (λ x. lowOf z x ≡ true)
   -- an abort is remembered of the mailbox on the wire alone
   pub abrq : abrqOf z m ≡ true → onWire z ≡ number m ∷ []
   pub reserved : (statusBit 4 z m ≡ false) × (statusBit 5 z m ≡ false) × (statusBit 6 z m ≡ false)
@@ -75,7 +76,7 @@ abbrev pub asksAbort : ℕ → ℕ → Bool
 asksAbort w n = bit (8 * n + 7) w
 
 -- "TSR: 1 in RQCP clears it with TXOK, ALST, TERR; 1 in one of those three clears it. Then ABRQ acts: a pending mailbox empties, RQCP=1, TXOK=0;
--- one on the wire remembers it; an empty one ignores it."
+-- one on the wire remembers it; an empty one ignores it." In every state that is reached
 pub record TsrWrite (z : Controller) (w : ℕ) (m : Mailbox) : Type 0 where
   pub rqcp : rqcpOf (afterWrite z Tsr w) m ≡ (rqcpOf z m && not (bit (8 * number m) w)) || (asksAbort w (number m) && isPending z m)
   pub txok : txokOf (afterWrite z Tsr w) m ≡ txokOf z m && not (bit (8 * number m) w) && not (bit (8 * number m + 1) w) && not (asksAbort w (number m) && isPending z m)
@@ -85,7 +86,8 @@ pub record TsrWrite (z : Controller) (w : ℕ) (m : Mailbox) : Type 0 where
   pub empties : requests (afterWrite z Tsr w) ≡ except (λ n. asksAbort w n && not (has (onWire z) n)) (requests z)
   pub wire : onWire (afterWrite z Tsr w) ≡ onWire z
 
--- "TI with TXRQ: request accepted, RQCP, TXOK, ALST, TERR clear, last in request order." Without TXRQ nothing of that
+-- "TI with TXRQ: request accepted, RQCP, TXOK, ALST, TERR clear, last in request order." Without TXRQ nothing of
+-- that. An accepted write, in every state that is reached
 pub record TiWrite (z : Controller) (m : Mailbox) (w : ℕ) : Type 0 where
   pub rqcp : rqcpOf (afterWrite z (Ti m) w) m ≡ rqcpOf z m && not (bit 0 w)
   pub txok : txokOf (afterWrite z (Ti m) w) m ≡ txokOf z m && not (bit 0 w)
@@ -101,7 +103,7 @@ pub record Dropped (z : Controller) (w : ℕ) (m : Mailbox) : Type 0 where
   pub rqcp : rqcpOf (afterWrite z Mcr w) m ≡ rqcpOf z m
   pub abrq : abrqOf (afterWrite z Mcr w) m ≡ false
 
--- ---- own end of mailbox m, with the result r
+-- ---- an accepted own end of mailbox m, which is on the wire, with the result r; in every state that is reached
 
 -- it ends the request: good, NART=1 (bit 4 of MCR) or a remembered abort
 abbrev pub endsRequest : Controller → Mailbox → ℕ → Bool
@@ -121,7 +123,7 @@ pub record OwnEnd (z : Controller) (m : Mailbox) (r : ℕ) : Type 0 where
   pub requests : requests (afterEnd z r) ≡ pick (endsRequest z m r) (except (λ n. eqb n (number m)) (requests z)) (requests z)
   pub wire : onWire (afterEnd z r) ≡ []
 
--- ---- nothing else
+-- ---- other steps
 
 -- the step may change the flags of mailbox m
 abbrev pub concerns : Controller → steps.Step → Mailbox → Bool
@@ -136,8 +138,15 @@ concerns z (Outcome r) m = has (onWire z) (number m)
 concerns z (Receive x) m = false
 concerns z (ReceiveError k n) m = false
 
+-- a step that does not concern mailbox m leaves its flags
 pub record FlagsStay (z : Controller) (s : steps.Step) (m : Mailbox) : Type 0 where
   pub rqcp : rqcpOf (step z s .controller) m ≡ rqcpOf z m
   pub txok : txokOf (step z s .controller) m ≡ txokOf z m
   pub alst : alstOf (step z s .controller) m ≡ alstOf z m
   pub terr : terrOf (step z s .controller) m ≡ terrOf z m
+
+-- a step of which the request book takes no notice leaves the requests, the wire and the remembered aborts
+pub record RequestsStay (z : Controller) (s : steps.Step) : Type 0 where
+  pub requests : requests (step z s .controller) ≡ requests z
+  pub wire : onWire (step z s .controller) ≡ onWire z
+  pub abrq : (m : Mailbox) → abrqOf (step z s .controller) m ≡ abrqOf z m
