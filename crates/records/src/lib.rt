@@ -12,7 +12,7 @@ fn is_tag(tag: u8) -> bool
 }
 
 // The length of the body that a tag has.
-fn body_length(tag: u8) -> usize
+pub fn body_length(tag: u8) -> usize
     ensures { λ r. ⌜ r ≡ scripts.bodyLength tag ⌝ }
 {
     match tag {

@@ -1,109 +1,20 @@
 // A bench script told in words: a line for each record with the step, its answer, the interrupt lines that are up and
 // what it changed. The script comes on standard input, the text goes to standard output; both go in pieces.
+use account::Account;
+use account::faults::Fault;
 use bits::least;
-use changes::Taken;
-use changes::View;
 use libc::STDERR_FILENO;
 use libc::STDOUT_FILENO;
 use model::Controller;
 use model::Reading;
 use model::Step;
-use names::Place;
 use text::Line;
-use text::byte;
-use text::column;
-use text::put;
-use text::said;
-use unreadable::Fault;
-
-mod changes; // what a step changed
-mod names; // registers and fields by name
-mod reasons; // why a step is refused
-mod steps; // a step in words
-mod text; // text in a row of bytes
-mod unreadable; // what is wrong with a record that can't be read
-
-const NUMBER_WIDTH: usize = 7;
-
-const ANSWER_COLUMN: usize = 61;
-
-const LINES_COLUMN: usize = 103;
-
-const CHANGED_COLUMN: usize = 123;
 
 // No record has more bytes.
 const LONGEST_RECORD: usize = 16;
 
 // Past this the text goes out, so that there is always room for a line.
 const ENOUGH_TEXT: usize = 61440;
-
-// ---- what happens
-
-// What a turn of the loop finds: nothing yet, the end of the script, a record that can't be read, or a step and the
-// length of its record.
-enum Turn {
-    Waits,
-    Ends,
-    Stops(Fault),
-    Steps(Step, usize),
-}
-
-// What there is to say of a step: its answer, the filter that took its frame, and the state before and after it.
-struct Account {
-    code: u8,
-    lines: u8,
-    word: u32,
-    taken: Taken,
-    old: View,
-    new: View,
-}
-
-// ---- a line
-
-// The word of a read, the mailbox of a start, or nothing to say.
-fn done(l: Line, e: Step, g: Place, word: u32) -> Line {
-    match e {
-        Step::Read(_) => names::fields(text::hex(l, word, 8), g, word),
-        Step::Start => said(l, b"mailbox %", 0, word as u64),
-        _ => byte(l, b'-'),
-    }
-}
-
-// The interrupt lines that are up.
-fn lines(l: Line, up: u8) -> Line {
-    let a = column(l, LINES_COLUMN - 1);
-    if up == 0 {
-        return put(a, b" -");
-    }
-    text::fields(a, b"TX FIFO0 FIFO1 SCE", 0, up as u32, 0)
-}
-
-fn changed(l: Line, t: Taken, old: View, new: View) -> Line {
-    let a = column(l, CHANGED_COLUMN);
-    let b = changes::told(a, t, old, new);
-    if a.at < b.at {
-        return b;
-    }
-    l
-}
-
-fn answered(l: Line, e: Step, g: Place, a: Account) -> Line {
-    let v = a.old;
-    if a.code != 0 {
-        return lines(reasons::told(l, a.code, v, e, g), a.lines);
-    }
-    let d = lines(done(l, e, g, a.word), a.lines);
-    let t = a.taken;
-    let w = a.new;
-    changed(d, t, v, w)
-}
-
-fn line(n: u64, e: Step, a: Account) -> Line {
-    let g = names::of_step(e);
-    let b = put(text::right(text::empty(), n, NUMBER_WIDTH), b"  ");
-    let c = column(steps::told(b, e, g), ANSWER_COLUMN);
-    byte(answered(c, e, g, a), b'\n')
-}
 
 // ---- input and output
 
@@ -151,6 +62,15 @@ fn sent(out: &[u8], text: usize) -> bool {
 
 // ---- a turn of the loop
 
+// What a turn of the loop finds: nothing yet, the end of the script, a record that can't be read, or a step and the
+// length of its record.
+enum Turn {
+    Waits,
+    Ends,
+    Stops(Fault),
+    Steps(Step, usize),
+}
+
 struct Turned {
     progress: Progress,
     turn: Turn,
@@ -172,7 +92,7 @@ fn next_turn(rest: &[u8]) -> Turn {
     let x = records::reading(rest, 0);
     match x {
         Reading::End => Turn::Ends,
-        Reading::Malformed(k) => Turn::Stops(unreadable::fault_in(k, rest)),
+        Reading::Malformed(k) => Turn::Stops(account::faults::fault_in(k, rest)),
         Reading::Found(e, q) => Turn::Steps(e, q),
     }
 }
@@ -224,14 +144,14 @@ struct Report {
     line: Line,
 }
 
-fn traced(p: Progress, q: usize, a: Account) -> Progress {
+fn traced(p: Progress, q: usize, code: u8, lines: u8) -> Progress {
     let i = p.input;
     Progress {
         records: std::num::wrapping_add_u64(p.records, 1),
-        refused: std::num::wrapping_add_u64(p.refused, bits::one(a.code != 0) as u64),
+        refused: std::num::wrapping_add_u64(p.refused, bits::one(code != 0) as u64),
         bytes: std::num::wrapping_add_u64(p.bytes, q as u64),
         text: p.text,
-        lines: a.lines,
+        lines: lines,
         going: true,
         input: Input {
             place: std::num::wrapping_add_usize(i.place, q),
@@ -244,34 +164,18 @@ fn traced(p: Progress, q: usize, a: Account) -> Progress {
 
 // The last line, behind a line that is begun.
 fn stop(p: Progress, l: Line, why: u32) -> Report {
-    let a = said(
-        l,
-        b"stopped at byte %: |end of the script at byte %: |standard input can't be read on, stopped at byte %: ",
-        why,
-        p.bytes,
-    );
-    let b = said(a, b"% records, ", 0, p.records);
     let mut q = p;
     q.going = false;
     Report {
         progress: q,
-        line: said(b, b"% refused\n", 0, p.refused),
+        line: wording::last(l, why, p.bytes, p.records, p.refused),
     }
 }
 
 fn complain_of(n: u64, place: u64, f: Fault) {
-    let a = said(text::empty(), b"trace: record %", 0, n);
-    let b = said(a, b" at byte %: ", 0, place);
-    let c = byte(unreadable::told(b, f), b'\n');
-    let bytes = c.bytes;
-    complain_first(&bytes, c.at);
-}
-
-fn unread_line(n: u64, place: u64, f: Fault, up: u8) -> Line {
-    let a = text::right(text::empty(), n, NUMBER_WIDTH);
-    let b = said(a, b"  can't be read, at byte %", 0, place);
-    let c = unreadable::told(column(b, ANSWER_COLUMN), f);
-    byte(lines(c, up), b'\n')
+    let l = wording::complaint(n, place, f);
+    let bytes = l.bytes;
+    complain_first(&bytes, l.at);
 }
 
 // A record that can't be read; where reading failed the script may just break off inside it.
@@ -281,29 +185,30 @@ fn unread(p: Progress, failed: bool, f: Fault) -> Report {
     }
     let n = std::num::wrapping_add_u64(p.records, 1);
     complain_of(n, p.bytes, f);
-    stop(p, unread_line(n, p.bytes, f, p.lines), 0)
+    stop(p, wording::unread_line(n, p.bytes, f, p.lines), 0)
 }
 
-fn told(p: Progress, t: Turn) -> Report {
+// a is of the step of the turn.
+fn told(p: Progress, t: Turn, a: Account) -> Report {
     let i = p.input;
     match t {
-        Turn::Ends => stop(p, text::empty(), bits::pick_u32(i.failed, 2, 1)),
-        Turn::Stops(f) => unread(p, i.failed, f),
-        _ => Report {
+        Turn::Waits => Report {
             progress: p,
             line: text::empty(),
         },
+        Turn::Ends => stop(p, text::empty(), bits::pick_u32(i.failed, 2, 1)),
+        Turn::Stops(f) => unread(p, i.failed, f),
+        Turn::Steps(e, k) => {
+            let q = traced(p, k, a.code, a.lines);
+            Report {
+                progress: q,
+                line: wording::line(q.records, e, a),
+            }
+        }
     }
 }
 
 // ---- the program
-
-fn head() -> Line {
-    put(
-        text::empty(),
-        b" record  step                                                answer                                    lines               changed\n      0  power on                                            -                                         -                   mode Sleep, error active, mailboxes and FIFOs empty\n",
-    )
-}
 
 fn begun() -> Progress {
     Progress {
@@ -322,41 +227,26 @@ fn begun() -> Progress {
     }
 }
 
-struct State {
-    controller: Controller,
-    report: Report,
-}
-
-fn stepped(z: Controller, p: Progress, e: Step, q: usize) -> State {
-    let c = z.core;
-    let a = controller::step(z, e);
-    let next = a.controller;
-    let d = next.core;
-    let x = Account {
-        code: a.code,
-        lines: a.lines,
-        word: a.word,
-        taken: changes::taken_by(z, e, a.code),
-        old: changes::view_of(c),
-        new: changes::view_of(d),
-    };
-    let r = traced(p, q, x);
-    State {
-        controller: next,
-        report: Report {
-            progress: r,
-            line: line(r.records, e, x),
-        },
+// The step of a turn; where it has none, bit times 0, which every state refuses.
+fn step_of(t: Turn) -> Step {
+    match t {
+        Turn::Steps(e, _) => e,
+        _ => Step::BitTimes(0),
     }
 }
 
-fn taken_turn(z: Controller, p: Progress, t: Turn) -> State {
-    match t {
-        Turn::Steps(e, k) => stepped(z, p, e, k),
-        _ => State {
-            controller: z,
-            report: told(p, t),
-        },
+struct Next {
+    controller: Controller,
+    account: Account,
+}
+
+fn stepped(z: Controller, e: Step) -> Next {
+    let a = controller::step(z, e);
+    let x = account::account_of(z, e, a);
+    let next = a.controller;
+    Next {
+        controller: next,
+        account: x,
     }
 }
 
@@ -381,12 +271,12 @@ fn round(s: Session, input: &mut [u8], out: &mut [u8]) -> Session {
     let t = u.turn;
     let q = u.progress;
     let z = s.controller;
-    let r = taken_turn(z, q, t);
-    let next = r.controller;
-    let report = r.report;
+    let n = stepped(z, step_of(t));
+    let next = n.controller;
+    let a = n.account;
     Session {
         controller: next,
-        progress: stored(report, out),
+        progress: stored(told(q, t, a), out),
     }
 }
 
@@ -398,7 +288,7 @@ fn run(input: &mut [u8], out: &mut [u8]) {
         progress: stored(
             Report {
                 progress: begun(),
-                line: head(),
+                line: wording::head(),
             },
             out,
         ),

@@ -1,0 +1,6 @@
+pub mod Accounts
+pub mod Faults
+pub mod Laws
+pub mod Places
+pub mod Reasons
+pub mod Views

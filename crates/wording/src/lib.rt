@@ -1,0 +1,121 @@
+// The lines of a trace: a step, its answer, the interrupt lines that are up and what it changed, in words.
+use account::Account;
+use account::faults::Fault;
+use account::places::Place;
+use model::Step;
+use text::Line;
+use text::byte;
+use text::column;
+use text::put;
+use text::said;
+
+mod changes; // what a step changed
+mod names; // registers and fields by name
+mod steps; // a step in words
+
+const NUMBER_WIDTH: usize = 7;
+
+const ANSWER_COLUMN: usize = 61;
+
+const LINES_COLUMN: usize = 103;
+
+pub fn head() -> Line {
+    put(
+        text::empty(),
+        b" record  step                                                answer                                    lines               changed\n      0  power on                                            -                                         -                   mode Sleep, error active, mailboxes and FIFOs empty\n",
+    )
+}
+
+// ---- the answer
+
+// The word of a read, the mailbox of a start, or nothing to say.
+fn done(l: Line, e: Step, g: Place, word: u32) -> Line {
+    match e {
+        Step::Read(_) => names::fields(text::hex(l, word, 8), g, word),
+        Step::Start => said(l, b"mailbox %", 0, word as u64),
+        _ => byte(l, b'-'),
+    }
+}
+
+// The reason, with the number of its mailbox or bank.
+fn refused(l: Line, code: u8, reason: u32, index: u32) -> Line {
+    let a = said(l, b"refused %: ", 0, code as u64);
+    said(
+        a,
+        b"offset isn't a multiple of 4|no register has this offset|a receive mailbox is read only|BTR needs Initialization mode|mailbox % isn't empty|FM1R needs FINIT=1|FS1R needs FINIT=1|FFA1R needs FINIT=1|bank % is active, FINIT=0|bit times are 1 to 65535|the result is over 7|bit 0 of the identifier word|standard with extended bits|length code over 15|error code isn't 1 to 6|REC goes up by 1 or 8|own frame on the wire|not in Sleep mode|not in Normal mode|bus-off|no request is pending|silent mode (SILM=1)|no frame on the wire|loopback needs no acknowledgment|loopback mode (LBKM=1)|filters not in use (FINIT=1)|",
+        reason,
+        index as u64,
+    )
+}
+
+// The interrupt lines that are up.
+fn lines(l: Line, up: u8) -> Line {
+    let a = column(l, LINES_COLUMN - 1);
+    if up == 0 {
+        return put(a, b" -");
+    }
+    text::fields(a, b"TX FIFO0 FIFO1 SCE", 0, up as u32, 0)
+}
+
+fn answered(l: Line, e: Step, a: Account) -> Line {
+    let g = a.place;
+    if a.code != 0 {
+        return lines(refused(l, a.code, a.reason, g.index), a.lines);
+    }
+    let d = lines(done(l, e, g, a.word), a.lines);
+    let t = a.taken;
+    let old = a.old;
+    let new = a.new;
+    changes::told(d, t, old, new)
+}
+
+// ---- lines
+
+pub fn line(n: u64, e: Step, a: Account) -> Line {
+    let g = a.place;
+    let b = put(text::right(text::empty(), n, NUMBER_WIDTH), b"  ");
+    let c = column(steps::told(b, e, g), ANSWER_COLUMN);
+    byte(answered(c, e, a), b'\n')
+}
+
+fn fault(l: Line, f: Fault) -> Line {
+    let a = said(l, b"refused %: ", 0, f.code as u64);
+    let b = said(
+        a,
+        b"short header, % bytes of 3|short body, % bytes of |length %, tag |unknown tag ",
+        f.kind,
+        f.count,
+    );
+    if f.kind < 2 {
+        return said(b, b"|%", f.kind, f.wanted);
+    }
+    let c = text::hex(b, f.tag as u32, 2);
+    said(c, b"|| takes %|", f.kind, f.wanted)
+}
+
+// A record that can't be read, at a byte of the script, with the interrupt lines that are up.
+pub fn unread_line(n: u64, place: u64, f: Fault, up: u8) -> Line {
+    let a = text::right(text::empty(), n, NUMBER_WIDTH);
+    let b = said(a, b"  can't be read, at byte %", 0, place);
+    let c = fault(column(b, ANSWER_COLUMN), f);
+    byte(lines(c, up), b'\n')
+}
+
+// The same for standard error.
+pub fn complaint(n: u64, place: u64, f: Fault) -> Line {
+    let a = said(text::empty(), b"trace: record %", 0, n);
+    let b = said(a, b" at byte %: ", 0, place);
+    byte(fault(b, f), b'\n')
+}
+
+// The last line: why and where the trace stopped, how many records there were and how many of them were refused.
+pub fn last(l: Line, why: u32, place: u64, records: u64, refused: u64) -> Line {
+    let a = said(
+        l,
+        b"stopped at byte %: |end of the script at byte %: |standard input can't be read on, stopped at byte %: ",
+        why,
+        place,
+    );
+    let b = said(a, b"% records, ", 0, records);
+    said(b, b"% refused\n", 0, refused)
+}
