@@ -38,7 +38,7 @@ fn second_word(banks: &[u32; 28], b: Bank) -> u32
 // ---- the filters of a bank
 
 // How many filters a bank gives.
-pub fn width(k: FilterClass) -> u32
+fn width(k: FilterClass) -> u32
     ensures { λ r. ⌜ r ≡ banks.width k ⌝ }
 {
     match k {
