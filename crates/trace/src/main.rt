@@ -235,21 +235,6 @@ fn step_of(t: Turn) -> Step {
     }
 }
 
-struct Next {
-    controller: Controller,
-    account: Account,
-}
-
-fn stepped(z: Controller, e: Step) -> Next {
-    let a = controller::step(z, e);
-    let x = account::account_of(z, e, a);
-    let next = a.controller;
-    Next {
-        controller: next,
-        account: x,
-    }
-}
-
 // The text goes behind the text that waits.
 fn stored(t: Report, out: &mut [u8]) -> Progress {
     let p = t.progress;
@@ -271,12 +256,13 @@ fn round(s: Session, input: &mut [u8], out: &mut [u8]) -> Session {
     let t = u.turn;
     let q = u.progress;
     let z = s.controller;
-    let n = stepped(z, step_of(t));
-    let next = n.controller;
-    let a = n.account;
+    let e = step_of(t);
+    let a = controller::step(z, e);
+    let x = account::account_of(z, e, a);
+    let next = a.controller;
     Session {
         controller: next,
-        progress: stored(told(q, t, a), out),
+        progress: stored(told(q, t, x), out),
     }
 }
 
