@@ -13,7 +13,7 @@ use Rattle.model.specs.Queue.{isEmpty}
 use Rattle.model.specs.Control.{isSleep, isInitialization, isNormal, boff, lbkm, silm}
 use Rattle.model.specs.Reception.{malformed}
 use Rattle.model.specs.Registers.{registerAt, isAbsent, isFree, hasRequest, writeRefusal}
-use Rattle.model.specs.Codes.{isOutput, isLocked}
+use Rattle.model.specs.Codes.{isOutput}
 use Rattle.model.specs.Step.{refusal, mayStart, mayEnd, mayReceive, receiveErrorInRange}
 use Rattle.model.specs.Script.{reading, decoded, part, isTag, bodyLength, number16, byteAt}
 use Rattle.model.specs.declared.Core.{Core}
@@ -70,9 +70,14 @@ needed : (k : ℕ) (b : Bool) → eqb (pick b 0 k) 0 ≡ false → (k ≡ pick b
 needed k true h = absurd (true≢false h)
 needed k false h = (refl, refl)
 
-locked : (b : Bool) → eqb (pick b 2 0) 0 ≡ false → (_≡_ {A = ℕ} 2 (pick b 2 0)) × (b ≡ true)
+-- a register is locked where the condition holds, or where it does not
+locked : (b : Bool) → eqb (pick b 2 0) 0 ≡ false → (_≡_ {A = ℕ} 2 (pick b 2 0)) × (eqb (pick b 2 0) 2 ≡ true)
 locked true h = (refl, refl)
 locked false h = absurd (true≢false h)
+
+unlocked : (b : Bool) → eqb (pick b 0 2) 0 ≡ false → (_≡_ {A = ℕ} 2 (pick b 0 2)) × (eqb (pick b 0 2) 2 ≡ true)
+unlocked true h = absurd (true≢false h)
+unlocked false h = (refl, refl)
 
 of-offset : (absent aligned : Bool)
     → eqb (pick absent 1 0) 0 ≡ false
@@ -86,7 +91,7 @@ of-offset false aligned h = absurd (true≢false h)
 abbrev saysOfWrite : Register → ℕ → Core → ℕ → Bool
 saysOfWrite g o c n =
     ((eqb n 0 && not (eqb (o % 4) 0)) || (eqb n 1 && isAbsent g))
-    || (eqb n 2 && isOutput g) || (leb 3 n && leb n 8 && isLocked g c)
+    || (eqb n 2 && isOutput g) || (leb 3 n && leb n 8 && eqb (writeRefusal g c) 2)
 
 of-write : (g : Register) (o : ℕ) (c : Core)
     → eqb (writeRefusal g c) 0 ≡ false
@@ -98,7 +103,7 @@ of-write Tsr o c h = absurd (true≢false h)
 of-write (Rfr f) o c h = absurd (true≢false h)
 of-write Ier o c h = absurd (true≢false h)
 of-write Esr o c h = absurd (true≢false h)
-of-write Btr o c h = needed 2 (isInitialization (c .control .mode)) h
+of-write Btr o c h = unlocked (isInitialization (c .control .mode)) h
 of-write (Ti m) o c h = locked (hasRequest c m) h
 of-write (Tdt m) o c h = locked (hasRequest c m) h
 of-write (Tdl m) o c h = locked (hasRequest c m) h
@@ -108,9 +113,9 @@ of-write (Rdt f) o c h = (refl, refl)
 of-write (Rdl f) o c h = (refl, refl)
 of-write (Rdh f) o c h = (refl, refl)
 of-write Fmr o c h = absurd (true≢false h)
-of-write Fm1r o c h = needed 2 (c .filters .finit) h
-of-write Fs1r o c h = needed 2 (c .filters .finit) h
-of-write Ffa1r o c h = needed 2 (c .filters .finit) h
+of-write Fm1r o c h = unlocked (c .filters .finit) h
+of-write Fs1r o c h = unlocked (c .filters .finit) h
+of-write Ffa1r o c h = unlocked (c .filters .finit) h
 of-write Fa1r o c h = absurd (true≢false h)
 of-write (R1 b) o c h = locked (not (c .filters .finit) && bit (b .0) (c .filters .activation)) h
 of-write (R2 b) o c h = locked (not (c .filters .finit) && bit (b .0) (c .filters .activation)) h

@@ -10,8 +10,8 @@ use lib.ListN.{length, getD}
 use Rattle.model.specs.Base.{pick, bit, bits}
 use Rattle.model.specs.Queue.{isEmpty}
 use Rattle.model.specs.Control.{isSleep, isNormal, boff, lbkm, silm}
-use Rattle.model.specs.Registers.{registerAt, isAbsent, isFree}
-use Rattle.model.specs.Codes.{isOutput, isLocked}
+use Rattle.model.specs.Registers.{registerAt, isAbsent, isFree, writeRefusal}
+use Rattle.model.specs.Codes.{isOutput}
 use Rattle.model.specs.Codes as codes
 use Rattle.model.specs.Step.{refusal}
 use Rattle.model.specs.Script.{isTag, bodyLength, number16, byteAt}
@@ -76,7 +76,7 @@ unfoldable pub says : Core → steps.Step → ℕ → Bool
 says c Reset n = false
 says c (Read o) n = saysOfOffset o n
 says c (Write o w) n =
-    saysOfOffset o n || (eqb n 2 && isOutput (registerAt o)) || (leb 3 n && leb n 8 && isLocked (registerAt o) c)
+    saysOfOffset o n || (eqb n 2 && isOutput (registerAt o)) || (leb 3 n && leb n 8 && eqb (writeRefusal (registerAt o) c) 2)
 says c Idle n = eqb n 16 && not (isFree c)
 says c (BitTimes k) n = eqb n 9 && not (leb 1 k && leb k 65535)
 says c Activity n = eqb n 17 && not (isSleep (c .control .mode))
