@@ -63,13 +63,13 @@ has-all 𝓤 H A W (s ∷ ss) κs a ws vss =
 
 -- the parameters ss, the step that they make, and what is bound for them at exit
 module _ (ss : List (Slot 1)) (e : (κs : Lfts 1) → Denots (typesAt ss κs) → Step) (still : (κs : Lfts 1) (a : Denots (typesAt ss κs)) → Fins κs ss (all yes ss) a) where
-  abbrev ended : Ended
+  abbrev pub ended : Ended
   ended = record { signature = record { lifetimes = 1; outlives = []; params = mutRefTo (0 ∷ []) tt (plain (λ _. T.the-row)) ∷ ss; result = plain (λ _. An.the-row) }; kept = (yes, all yes ss) }
 
   abbrev stayed : Stays (ended .signature .params) (ended .kept)
   stayed = (gave-ref (0 ∷ []) tt (plain (λ _. T.the-row)), dropped ss)
 
-  abbrev clauses : {M : Type 1} (𝓤 : URA M) → Clauses 𝓤 ended
+  abbrev pub clauses : {M : Type 1} (𝓤 : URA M) → Clauses 𝓤 ended
   clauses 𝓤 κs a = record { ghost = Unit {0}; requires = λ _. emp 𝓤; ensures = λ _ r z. fact 𝓤 (Taken (a .0 .now) (e κs (a .1)) r (z .0 .now)) }
 
   module _ {M : Type 1} (𝓤 : URA M) (H : Heap 𝓤) (A : Atoms 𝓤) (W : Given 𝓤 H A) (at-mem : Memory → SProp 𝓤) (run : Routine → Fun 𝓤) where

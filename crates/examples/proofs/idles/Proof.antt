@@ -4,10 +4,10 @@ use Rattle.examples.proofs.idles.Statement.{statement}
 use Rattle.examples.proofs.idles.Tie as tie
 
 abbrev Inv-loop : tie.InvT-loop
-Inv-loop n z₀ i₀ z i = i ≤ n
+Inv-loop l n z₀ i₀ z i = i ≤ n
 
 abbrev μ-loop : tie.MeasureT-loop
-μ-loop n z₀ i₀ z i = n - i
+μ-loop l n z₀ i₀ z i = n - i
 
 reset-requires : tie.Need-reset-requires Inv-loop μ-loop
 reset-requires c κs = search needs
