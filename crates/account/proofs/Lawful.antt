@@ -216,35 +216,34 @@ of-error true false false k n b f h = (refl, refl)
 of-error true true false k n b f h = (refl, refl)
 of-error true true true k n b f h = (f h .0, or-right (errorSays true true true n) (b n) (f h .1))
 
-both : (c : Core) (e : steps.Step) → (getD codesOf (reasonOf c e) 0 ≡ refusal c e) × (says c e (reasonOf c e) ≡ true) → Reasoned c e
-both c e p = record { coded = p .0; holds = p .1 }
-
-pub reasoned : (c : Core) (e : steps.Step) → eqb (refusal c e) 0 ≡ false → Reasoned c e
+fits : (c : Core) (e : steps.Step)
+    → eqb (refusal c e) 0 ≡ false
+    → (getD codesOf (reasonOf c e) 0 ≡ refusal c e) × (says c e (reasonOf c e) ≡ true)
 unfolding refusal says mayStart mayEnd mayReceive receiveErrorInRange malformed ofStep ofOffset ofBus ofStart ofReception ofOutcome ofFrame ofError
-reasoned c Reset h = absurd (true≢false h)
-reasoned c (Read o) h = both c (Read o) (of-offset (isAbsent (registerAt o)) (eqb (o % 4) 0) h)
-reasoned c (Write o w) h = both c (Write o w) (of-write (registerAt o) o c h)
-reasoned c Idle h = both c Idle (needed 4 (isFree c) h)
-reasoned c (BitTimes n) h = both c (BitTimes n) (needed 5 (leb 1 n && leb n 65535) h)
-reasoned c Activity h = both c Activity (needed 4 (isSleep (c .control .mode)) h)
-reasoned c Start h =
-    both c Start
-    (of-start (isNormal (c .control .mode)) (boff (c .errors)) (isFree c) (isEmpty (c .transmit .queue .order)) (silm (c .control)) (lbkm (c .control)) h)
-reasoned c (Outcome r) h = both c (Outcome r) (of-outcome (ltb 7 r) (isFree c) (eqb r 3) (lbkm (c .control)) h)
-reasoned c (Receive x) h =
-    both c (Receive x)
-    (of-frame (bit 0 (x .identifier)) (bit 2 (x .identifier)) (eqb (bits 3 18 (x .identifier)) 0) (ltb 15 (x .length))
+fits c Reset h = absurd (true≢false h)
+fits c (Read o) h = of-offset (isAbsent (registerAt o)) (eqb (o % 4) 0) h
+fits c (Write o w) h = of-write (registerAt o) o c h
+fits c Idle h = needed 4 (isFree c) h
+fits c (BitTimes n) h = needed 5 (leb 1 n && leb n 65535) h
+fits c Activity h = needed 4 (isSleep (c .control .mode)) h
+fits c Start h =
+    of-start (isNormal (c .control .mode)) (boff (c .errors)) (isFree c) (isEmpty (c .transmit .queue .order)) (silm (c .control)) (lbkm (c .control)) h
+fits c (Outcome r) h = of-outcome (ltb 7 r) (isFree c) (eqb r 3) (lbkm (c .control)) h
+fits c (Receive x) h =
+    of-frame (bit 0 (x .identifier)) (bit 2 (x .identifier)) (eqb (bits 3 18 (x .identifier)) 0) (ltb 15 (x .length))
     (pick (mayReceive c) 0 4)
     (busReason (isNormal (c .control .mode)) (boff (c .errors)) (isFree c) (pick (lbkm (c .control)) 24 25))
     (receptionSays (isNormal (c .control .mode)) (boff (c .errors)) (isFree c) (lbkm (c .control)) (c .filters .finit))
-    (of-reception (isNormal (c .control .mode)) (boff (c .errors)) (isFree c) (lbkm (c .control)) (c .filters .finit)) h)
-reasoned c (ReceiveError k n) h =
-    both c (ReceiveError k n)
-    (of-error (leb 1 k) (leb k 6) (eqb n 1 || eqb n 8)
+    (of-reception (isNormal (c .control .mode)) (boff (c .errors)) (isFree c) (lbkm (c .control)) (c .filters .finit)) h
+fits c (ReceiveError k n) h =
+    of-error (leb 1 k) (leb k 6) (eqb n 1 || eqb n 8)
     (pick (mayReceive c) 0 4)
     (busReason (isNormal (c .control .mode)) (boff (c .errors)) (isFree c) (pick (lbkm (c .control)) 24 25))
     (receptionSays (isNormal (c .control .mode)) (boff (c .errors)) (isFree c) (lbkm (c .control)) (c .filters .finit))
-    (of-reception (isNormal (c .control .mode)) (boff (c .errors)) (isFree c) (lbkm (c .control)) (c .filters .finit)) h)
+    (of-reception (isNormal (c .control .mode)) (boff (c .errors)) (isFree c) (lbkm (c .control)) (c .filters .finit)) h
+
+pub reasoned : (c : Core) (e : steps.Step) → Reasoned c e
+reasoned c e = record { coded = λ h. fits c e h .0; holds = λ h. fits c e h .1 }
 
 -- ---- records that can't be read
 
@@ -287,10 +286,10 @@ whole n = at (ltb n 3) refl
     at true e = lt-leb 3 n (ltb-true n 3 e)
     at false e = le-leb 3 n (ltb-false n 3 e)
 
-pub faulty : (s : List ℕ) (k : ℕ) → reading s 0 ≡ Malformed k → Faulty s k
+pub faulty : (s : List ℕ) (k : ℕ) → Faulty s k
 unfolding reading saysOfRecord kindOf
-faulty s k h = record {
-  holds = rw (whole (length s))
+faulty s k = record {
+  holds = λ h. rw (whole (length s))
       (of-record (leb (length s) 0) (ltb (length s) 3) (isTag (byteAt s 0)) (eqb (number16 s 1) (bodyLength (byteAt s 0)))
       (ltb (length s) (3 + bodyLength (byteAt s 0)))
       (decoded (byteAt s 0) (part s 3 (3 + bodyLength (byteAt s 0)))) (3 + bodyLength (byteAt s 0)) k (rw sub-zero at h));

@@ -14,10 +14,11 @@ use Rattle.model.specs.Registers.{registerAt, isAbsent, isFree, writeRefusal}
 use Rattle.model.specs.Codes.{isOutput}
 use Rattle.model.specs.Codes as codes
 use Rattle.model.specs.Step.{refusal}
-use Rattle.model.specs.Script.{isTag, bodyLength, number16, byteAt}
+use Rattle.model.specs.Script.{reading, isTag, bodyLength, number16, byteAt}
 use Rattle.registers.specs.Accesses as accesses
 use Rattle.model.specs.declared.Core.{Core}
 use Rattle.model.specs.declared.Frame.{Frame}
+use Rattle.model.specs.declared.Reading.the-variants.{Malformed}
 use Rattle.model.specs.declared.Register.{Register}
 use Rattle.model.specs.declared.Step as steps
 use Rattle.model.specs.declared.Step.the-variants.{Reset, Read, Write, Idle, BitTimes, Activity, Start, Outcome, Receive, ReceiveError}
@@ -89,10 +90,10 @@ says c (Receive x) n = saysOfFrame x n || saysOfReception c n
 says c (ReceiveError k m) n =
     (eqb n 14 && not (leb 1 k && leb k 6)) || (eqb n 15 && not (eqb m 1 || eqb m 8)) || saysOfReception c n
 
--- of a refused step: its reason has the code that is given, and what it says is so
+-- the reason for a refusal has the code that is given, and what it says is so
 pub record Reasoned (c : Core) (e : steps.Step) : Type 0 where
-  pub coded : getD codesOf (reasonOf c e) 0 ≡ refusal c e
-  pub holds : says c e (reasonOf c e) ≡ true
+  pub coded : eqb (refusal c e) 0 ≡ false → getD codesOf (reasonOf c e) 0 ≡ refusal c e
+  pub holds : eqb (refusal c e) 0 ≡ false → says c e (reasonOf c e) ≡ true
 
 -- ---- records that can't be read
 
@@ -104,6 +105,6 @@ saysOfRecord s n =
     || (eqb n 2 && isTag (byteAt s 0) && not (eqb (number16 s 1) (bodyLength (byteAt s 0))))
     || (eqb n 3 && leb 3 (length s) && not (isTag (byteAt s 0)))
 
--- s is the script from the record on, k the code that reading it gives
+-- s is the script from the record on; what is said of a record that can't be read is so
 pub record Faulty (s : List ℕ) (k : ℕ) : Type 0 where
-  pub holds : saysOfRecord s (kindOf k (length s)) ≡ true
+  pub holds : reading s 0 ≡ Malformed k → saysOfRecord s (kindOf k (length s)) ≡ true
