@@ -8,8 +8,8 @@ use native.Mathlib.Nat.{le-antisymm}
 use native.Mathlib.Omega.{arith}
 use Rattle.model.specs.Banks.{filterNumber, rank, numberOf}
 use Rattle.model.specs.Search.{firstHit, acceptance}
-use Rattle.model.specs.Codes.{fifoNumber}
 use Rattle.model.specs.Filtering.{hitNumbers, acceptanceNumbers, ActiveMatch, Lowest, Accepted, NoneTakes, Filtering}
+use Rattle.model.specs.Shown.{fifoNumber}
 use Rattle.model.specs.declared.Filters.{Filters}
 use Rattle.model.specs.declared.Bank.{Bank}
 use Rattle.model.specs.declared.FilterClass.{FilterClass}

@@ -6,15 +6,16 @@ use Prim.Native.Nat.{ℕ, _+_, _*_, _<_, _≤_}
 use native.Mathlib.Omega.{arith}
 use lib.Dec.{eqb, ltb}
 use borrow.Author.Tests.{eqb-false, ltb-true, ltb-false, lt-ltb}
-use Rattle.model.specs.Base.{pick, bit, one}
+use Rattle.model.specs.Base.{pick, bit}
 use Rattle.model.specs.Queue.{number, same, holds, without, oldest, newest, isFrom, isNobody, isEmpty, besides, orderNumbers, senderNumbers}
 use Rattle.model.specs.Mailboxes.{at, identifiers, identifier, wireKey, key, before, sooner, later, firstInWireOrder, lastInWireOrder, first, last, lastOf, started, tiWord}
 use Rattle.model.specs.Control.{txfp}
 use Rattle.model.specs.Registers.{readWord}
 use Rattle.model.specs.Step.{step, settled}
 use Rattle.model.specs.Reachable.{distinct, carried}
-use Rattle.model.specs.ReadBack.{reads, has}
+use Rattle.model.specs.ReadBack.{has}
 use Rattle.model.specs.Arbitration.{isPending, earlier, goesBefore, precedes, IsFirst, IsLast, StartsFirst}
+use Rattle.model.specs.Codes.{reads}
 use Rattle.model.specs.declared.Mailbox.{Mailbox}
 use Rattle.model.specs.declared.Mailbox.the-variants.{M0, M1, M2}
 use Rattle.model.specs.declared.Sender.{Sender}

@@ -1,5 +1,5 @@
 -- What the registers show of the banks, and that their words read back as they were written.
-use mathlib.Core.Bool.{Bool, true, false, not}
+use mathlib.Core.Bool.{Bool, true, false, true≢false}
 use mathlib.Core.List.{List}
 use mathlib.Core.Logic.{_↔_}
 use mathlib.Core.Path.{_≡_, refl, sym, ap, _∙_}
@@ -14,12 +14,13 @@ use Rattle.model.specs.Base.{bit}
 use Rattle.model.specs.Banks.{bank, classBy, classOf, belongs}
 use Rattle.model.specs.Registers.{registerAt, filterRegister, isAbsent, bankCount, bankWord, withBankWord, banksWritten, readWord}
 use Rattle.model.specs.Step.{step, answered, refusal, wordOf, banksAfter, banksApplied}
-use Rattle.model.specs.Codes.{fifoNumber, offsetOf}
-use Rattle.model.specs.Filtering.{scaleBit, modeBit, readAt, Shown, BankWord, wordR1, wordR2, Touches, BankWords}
+use Rattle.model.specs.Codes.{offsetOf, reads}
+use Rattle.model.specs.Filtering.{scaleBit, modeBit, Shown, BankWord, wordR1, wordR2, BankWords}
+use Rattle.model.specs.ReadBack.{sets}
+use Rattle.model.specs.Shown.{fifoNumber}
 use Rattle.model.specs.declared.Bank.{Bank}
 use Rattle.model.specs.declared.Fifo.{Fifo}
 use Rattle.model.specs.declared.Fifo.the-variants.{F0, F1}
-use Rattle.model.specs.declared.Core.{Core}
 use Rattle.model.specs.declared.Controller.{Controller}
 use Rattle.model.specs.declared.Register.{Register}
 use Rattle.model.specs.declared.Register.the-variants.{Mcr, Msr, Tsr, Rfr, Ier, Esr, Btr, Ti, Tdt, Tdl, Tdh, Ri, Rdt, Rdl, Rdh, Fmr, Fm1r, Fs1r, Ffa1r, Fa1r, R1, R2, Absent}
@@ -27,12 +28,17 @@ use Rattle.model.specs.declared.Step as steps
 use Rattle.model.specs.declared.Step.the-variants.{Reset, Read, Write, Idle, BitTimes, Activity, Start, Outcome, Receive, ReceiveError}
 use Rattle.model.proofs.Choices.{Is-not, pick-cases}
 use Rattle.model.proofs.Mapped.{map}
+use Rattle.model.proofs.RegisterAccess.{elsewhere}
 
 -- ---- reads
 
 found : (r : Register) → BankWord r → registerAt (offsetOf r) ≡ r
 found r (wordR1 b h) = map .found (R1 b) (lt-ltb (b .0) bankCount h)
 found r (wordR2 b h) = map .found (R2 b) (lt-ltb (b .0) bankCount h)
+
+present : (r : Register) → BankWord r → isAbsent r ≡ false
+present r (wordR1 b h) = refl
+present r (wordR2 b h) = refl
 
 -- where a bank's word stands among all
 abbrev place : (r : Register) → BankWord r → ℕ
@@ -42,16 +48,16 @@ place r (wordR2 b h) = 2 * (b .0) + 1
 abbrev stored : (r : Register) → BankWord r → List ℕ → ℕ
 stored r p v = getD v (place r p) 0
 
-bank-read : (z : Controller) (r : Register) (p : BankWord r) → readAt z r ≡ stored r p (z .banks)
+bank-read : (z : Controller) (r : Register) (p : BankWord r) → reads z r ≡ stored r p (z .banks)
 unfolding step answered refusal wordOf readWord bankWord
 bank-read z r (wordR1 b h) = rw (found (R1 b) (wordR1 b h), lt-ltb (b .0) bankCount h)
 bank-read z r (wordR2 b h) = rw (found (R2 b) (wordR2 b h), lt-ltb (b .0) bankCount h)
 
 record FilterRead (z : Controller) : Type 0 where
-  mode : readAt z Fm1r ≡ z .core .filters .mode
-  scale : readAt z Fs1r ≡ z .core .filters .scale
-  assignment : readAt z Ffa1r ≡ z .core .filters .assignment
-  activation : readAt z Fa1r ≡ z .core .filters .activation
+  mode : reads z Fm1r ≡ z .core .filters .mode
+  scale : reads z Fs1r ≡ z .core .filters .scale
+  assignment : reads z Ffa1r ≡ z .core .filters .assignment
+  activation : reads z Fa1r ≡ z .core .filters .activation
 
 filter-read : (z : Controller) → FilterRead z
 unfolding step answered refusal wordOf registerAt filterRegister readWord
@@ -161,11 +167,11 @@ module _ (z : Controller) where
   done r w p h = rw (eq-eqb _ 0 h, found r p)
 
   module _ (r : Register) (p : BankWord r) where
-    applied-keeps : (s : steps.Step) → (Touches s r → ⊥) → stored r p (banksApplied (z .banks) s) ≡ stored r p (z .banks)
+    applied-keeps : (s : steps.Step) → sets s r ≡ false → stored r p (banksApplied (z .banks) s) ≡ stored r p (z .banks)
     unfolding banksApplied
-    applied-keeps Reset n = absurd (n tt)
+    applied-keeps Reset n = absurd (true≢false n)
     applied-keeps (Read o) n = refl
-    applied-keeps (Write o w) n = not-written r p (z .banks) w (registerAt o) n
+    applied-keeps (Write o w) n = not-written r p (z .banks) w (registerAt o) (λ e. elsewhere o r e (present r p) n)
     applied-keeps Idle n = refl
     applied-keeps (BitTimes k) n = refl
     applied-keeps Activity n = refl
@@ -174,7 +180,7 @@ module _ (z : Controller) where
     applied-keeps (Receive x) n = refl
     applied-keeps (ReceiveError k m) n = refl
 
-    step-keeps : (s : steps.Step) → (Touches s r → ⊥) → stored r p (step z s .controller .banks) ≡ stored r p (z .banks)
+    step-keeps : (s : steps.Step) → sets s r ≡ false → stored r p (step z s .controller .banks) ≡ stored r p (z .banks)
     unfolding step answered banksAfter
     step-keeps s n =
         pick-cases (λ (u : List ℕ). stored r p u ≡ stored r p (z .banks)) (eqb (refusal (z .core) s) 0) (banksApplied (z .banks) s) (z .banks)

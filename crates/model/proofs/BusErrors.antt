@@ -31,7 +31,7 @@ use Rattle.model.specs.declared.Step.the-variants.{Reset, Read, Write, I
 use Rattle.model.proofs.Choices.{Is, Not, and-l, and-r, Is-not, pick-cases, refused-unless}
 use Rattle.model.proofs.Follows.{end-accepted, may-end}
 use Rattle.model.proofs.Mapped.{map}
-use Rattle.model.proofs.HistoryReads.{not-here}
+use Rattle.model.proofs.RegisterAccess.{elsewhere}
 
 -- the counts as the controller stores them
 abbrev pub countsOf : Core → ErrorCounts
@@ -149,7 +149,7 @@ write-counts : (m e : Bool) (o : ℕ) (c : Core) (w : ℕ) → eqb o 0x000 ≡ m
 write-counts true e o c w p q = rw (eqb-true o 0x000 p, map .found Mcr tt) (mcr-write (bit 15 w) c w refl)
 write-counts false true o c w p q = rw (eqb-true o 0x018 q, map .found Esr tt) (esr-write c w)
 write-counts false false o c w p q =
-    let k : Kept c (written (registerAt o) c w) = other-writes (registerAt o) c w (not-here o Mcr refl p) (not-here o Esr refl q) in
+    let k : Kept c (written (registerAt o) c w) = other-writes (registerAt o) c w (λ e. elsewhere o Mcr e refl p) (λ e. elsewhere o Esr e refl q) in
     rw (p, q) (kept-mode c (written (registerAt o) c w) (countsOf c) (k .mode) (k .counts))
 
 -- ---- idle

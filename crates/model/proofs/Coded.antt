@@ -10,7 +10,8 @@ use Rattle.model.specs.Control.{isSleep}
 use Rattle.model.specs.Control as control
 use Rattle.model.specs.Registers.{registerAt, isAbsent, writeRefusal, isFree}
 use Rattle.model.specs.Step.{step, answered, coreAfter, banksAfter, refusal, mayStart, mayEnd, mayReceive, receiveErrorInRange}
-use Rattle.model.specs.Codes.{txm, lbkm, canStart, canReceive, notMapped, writesOutput, isOutput, isLocked, writesLocked, outOfRange, cannotBe, Codes, Refused}
+use Rattle.model.specs.Codes.{canStart, canReceive, notMapped, writesOutput, isOutput, isLocked, writesLocked, outOfRange, cannotBe, Codes, Refused}
+use Rattle.model.specs.Shown.{txm, lbkm}
 use Rattle.model.specs.declared.Bank.{Bank}
 use Rattle.model.specs.declared.Controller.{Controller}
 use Rattle.model.specs.declared.Register.{Register}

@@ -12,9 +12,9 @@ use Rattle.model.specs.Control.{ewgf, epvf, boff, idleErrors, recovers, 
 use Rattle.model.specs.Registers.{registerAt, reset, written, isFree}
 use Rattle.model.specs.Step.{refusal, applied, settled, startedBy, endedBy, mayEnd, receiveErrorInRange}
 use Rattle.model.specs.Reachable.{InRange, StepRange}
-use Rattle.model.specs.Shown.{msr, ier, Done, nextOf}
+use Rattle.model.specs.Shown.{msr, Done, nextOf}
 use Rattle.model.specs.ErrorFlags.{recAfter, lecAfter, putsCode, rises, clearsErri, ErrorStatus, ErrorChange, ErrorFlags}
-use Rattle.model.specs.ErrorFlags as flags
+use Rattle.model.specs.Shown as read
 use Rattle.model.specs.declared.Sender.{Sender}
 use Rattle.model.specs.declared.Sender.the-variants.{Nobody, From}
 use Rattle.model.specs.declared.Control.{Control}
@@ -31,19 +31,19 @@ use Rattle.model.proofs.DoneSteps.{accepted, done-core, rule-left}
 
 -- ---- what ESR shows
 
-shown-rec : (z : Controller) → InRange z → flags.rec z ≡ z .core .errors .rec
+shown-rec : (z : Controller) → InRange z → read.rec z ≡ z .core .errors .rec
 shown-rec z i = rw (esr-shown z) (esr-rec (z .core .errors) (i .core .errors .lec) (i .core .errors .rec))
 
-shown-lec : (z : Controller) → InRange z → flags.lec z ≡ z .core .errors .lec
+shown-lec : (z : Controller) → InRange z → read.lec z ≡ z .core .errors .lec
 shown-lec z i = rw (esr-shown z) (esr-lec (z .core .errors) (i .core .errors .lec))
 
-shown-ewgf : (z : Controller) → flags.ewgf z ≡ ewgf (z .core .errors)
+shown-ewgf : (z : Controller) → read.ewgf z ≡ ewgf (z .core .errors)
 shown-ewgf z = rw (esr-shown z) (esr-ewgf (z .core .errors))
 
-shown-epvf : (z : Controller) → flags.epvf z ≡ epvf (z .core .errors)
+shown-epvf : (z : Controller) → read.epvf z ≡ epvf (z .core .errors)
 shown-epvf z = rw (esr-shown z) (esr-epvf (z .core .errors))
 
-shown-boff : (z : Controller) → flags.boff z ≡ boff (z .core .errors)
+shown-boff : (z : Controller) → read.boff z ≡ boff (z .core .errors)
 shown-boff z = rw (esr-shown z) (esr-boff (z .core .errors))
 
 shown-erri : (z : Controller) → bit 2 (msr z) ≡ z .core .control .erri
@@ -342,7 +342,7 @@ error-change z s i j h =
     record {
       received = rw (shown-rec y j, shown-rec z i, shown-boff z, shown-boff y, d) (applied-rec (z .core) (z .banks) s a);
       last = rw (shown-lec y j, shown-lec z i, d) (applied-lec (z .core) (z .banks) s a);
-      warned = warned (flags.ewgf z) (flags.ewgf y) (flags.tec z) (flags.rec z) (flags.tec y) (flags.rec y) (error-status z i .warning) (error-status y j .warning);
+      warned = warned (read.ewgf z) (read.ewgf y) (read.tec z) (read.rec z) (read.tec y) (read.rec y) (error-status z i .warning) (error-status y j .warning);
       erri = rw (shown-erri y, shown-erri z, shown-ewgf z, shown-ewgf y, shown-epvf z, shown-epvf y, shown-boff z, shown-boff y, ier-shown z, d, done-core z s h)
           (rule-left (applied (z .core) (z .banks) s) .erri ∙ applied-erri (z .core) (z .banks) s a);
     }

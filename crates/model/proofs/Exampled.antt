@@ -1,5 +1,5 @@
 -- The worked examples hold: both sides compute to the same numbers.
-use mathlib.Core.Path.{_≡_, refl}
+use mathlib.Core.Path.{refl}
 use Rattle.model.specs.Requests.{after}
 use Rattle.model.specs.Examples.{Examples}
 use Rattle.model.specs.Scripts.{WholeScript}

@@ -5,14 +5,14 @@ use mathlib.Core.List.{List, [], _∷_, _++_}
 use mathlib.Core.Logic.{_⊎_, inl, inr}
 use Prim.Native.Nat.{ℕ, _≤_, _+_}
 use native.Mathlib.Omega.{arith}
-use Rattle.model.specs.Base.{bit, one}
-use Rattle.model.specs.Queue.{number, flag, holds, joined}
-use Rattle.model.specs.Mailboxes.{code}
+use Rattle.model.specs.Base.{one}
+use Rattle.model.specs.Queue.{flag, holds, joined}
 use Rattle.model.specs.Control.{txfp, controlReset}
 use Rattle.model.specs.Registers.{reset, registerAt, controlRegister}
 use Rattle.model.specs.Step.{step, answered, refusal}
 use Rattle.model.specs.Reachable.{distinct, carried}
 use Rattle.model.specs.Requests.{Event, nothing, drops, modes, accepts, aborts, starts, ends, Entry, Requests, noneYet, next, requestsAfter, after, entries, event, entry}
+use Rattle.model.specs.Shown.{tme}
 use Rattle.model.specs.Fairness.{isDrop, inOrder, Moment, meanwhile, hasEnded, underRequestOrder, otherEnds, otherEnd, isGood, endsWell, every, count, Served, Fairness, requestsFrom, entriesBehind}
 use Rattle.model.specs.declared.Mailbox.{Mailbox}
 use Rattle.model.specs.declared.Sender.{Sender}
@@ -25,7 +25,7 @@ use Rattle.model.proofs.Choices.{Is, Not, Is-not, and-l, and-r}
 use Rattle.model.proofs.Orders.{ahead, ahead-two, flag-out, holds-joined, last-joined}
 use Rattle.model.proofs.Views.{View, viewNext, Granted, Sound, requestsOf, requests-follow, sound-next, Waits, inFront, Turn, over, on, turn}
 use Rattle.model.proofs.Follows.{viewOf, follows}
-use Rattle.model.proofs.ReadFields.{tsr-read, tme-bit}
+use Rattle.model.proofs.StatusWord.{flags-shown}
 
 -- ---- the observer's requests are the controller's
 
@@ -213,8 +213,8 @@ good-fair z l g = record {
     b : Requests
     b = requestsOf (view z)
 
-    empty : (m : Mailbox) → bit (26 + number m) (step (after z l) (Read 8) .word) ≡ not (flag (requestsFrom z b l .outstanding) m)
-    empty m = rw (tsr-read (after z l), run-requests l z g, flag-out (after z l .core .transmit .queue .order) m) (tme-bit (txfp (after z l .core .control)) (after z l .core .transmit) m)
+    empty : (m : Mailbox) → tme m (after z l) ≡ not (flag (requestsFrom z b l .outstanding) m)
+    empty m = rw (run-requests l z g, flag-out (after z l .core .transmit .queue .order) m) (flags-shown (after z l) m .tme)
 
     claim : (before : List steps.Step) (s : steps.Step) (rest : List steps.Step) (m : Mailbox) → event (entry s (step (after z before) s)) ≡ accepts m
         → Claim (requestsFrom z b (before ++ s ∷ [])) m (entriesBehind z (before ++ s ∷ []) rest)

@@ -14,11 +14,10 @@ use Rattle.model.specs.Reception.{malformed, dataBytes, bytesKept, store
 use Rattle.model.specs.Control.{rflm, lbkm}
 use Rattle.model.specs.Registers.{registerAt, blockRegister, mailboxRegister, readWord, bankCount, reset, fifoOf}
 use Rattle.model.specs.Step.{step, answered, refusal, wordOf, applied, settled, storedBy, startedBy, loopedBack, endedBy}
-use Rattle.model.specs.Codes.{fifoNumber}
 use Rattle.model.specs.Reachable.{InRange, StepRange, FifoRange, MailboxRange}
-use Rattle.model.specs.Shown.{fmr, rdt, rdl, rdh, ti, tdt, tdl, tdh, Done, nextOf}
+use Rattle.model.specs.Shown.{fmr, rdt, rdl, rdh, ti, tdt, tdl, tdh, Done, nextOf, fifoNumber}
 use Rattle.model.specs.Fifos.{other, NoOutput, SameOutput, Kept, hasByte, Shows, Stored, Passed, SentBy, isLooped, EndRule, WriteRule, FifoRule, Fifos}
-use Rattle.model.specs.Fifos as read
+use Rattle.model.specs.Shown as read
 use Rattle.model.specs.declared.Mailbox.{Mailbox}
 use Rattle.model.specs.declared.Mailbox.the-variants.{M0, M1, M2}
 use Rattle.model.specs.declared.MailboxState.{MailboxState}

@@ -1,21 +1,20 @@
 -- Each step of the controller does to its requests what the event that the observer sees of it says.
-use mathlib.Core.Bool.{Bool, true, false, not, _&&_, _||_, true≢false, false≢true}
+use mathlib.Core.Bool.{Bool, true, false, not, _&&_, true≢false, false≢true}
 use mathlib.Core.List.{List}
-use mathlib.Core.Path.{_≡_, refl, sym, subst, ap, _∙_}
-use Prim.Native.Nat.{ℕ, _+_, _*_, _-_, _/_, _%_, _^_, _≤_}
+use mathlib.Core.Path.{_≡_, refl, sym, ap, _∙_}
+use Prim.Native.Nat.{ℕ, _-_, _/_, _%_, _^_}
 use native.Mathlib.Omega.{arith}
-use lib.Dec.{leb, ltb, eqb}
+use lib.Dec.{ltb, eqb}
 use borrow.Author.Tests.{eqb-true}
-use Rattle.model.specs.Base.{pick, bit, bits}
-use Rattle.model.specs.Queue.{number, numbered, senderNumber, same, holds, oldest, isFrom, isNobody, isEmpty, noRequests, requested, sending, offWire}
+use Rattle.model.specs.Base.{pick, bit}
+use Rattle.model.specs.Queue.{number, numbered, senderNumber, same, holds, oldest, isFrom, isNobody, isEmpty, requested}
 use Rattle.model.specs.Mailboxes.{firstInWireOrder, sooner, before, first, firstOf, identifiers, requestedBy, tsrWritten, started, ended, over}
-use Rattle.model.specs.Reception.{malformed}
-use Rattle.model.specs.Control.{nart, txfp, awum, silm, lbkm, isNormal, isSleep, boff, mcrMasked, sleepCleared, entered, counted, idled, ticked, woken, errorsChanged, controlReset, masterReset, mcrWritten, msrWritten, ierWritten, btrWritten}
+use Rattle.model.specs.Control.{nart, txfp, awum, silm, lbkm, isNormal, boff, mcrMasked, sleepCleared, entered, counted, idled, ticked, woken, errorsChanged, controlReset, masterReset, mcrWritten, msrWritten, ierWritten, btrWritten}
 use Rattle.model.specs.Control as control
-use Rattle.model.specs.Registers.{registerAt, reset, coreReset, written, writeRefusal, isFree, hasRequest, withControl, withTransmit, isAbsent}
-use Rattle.model.specs.Step.{step, answered, coreAfter, refusal, wordOf, applied, settled, storedBy, startedBy, endedBy, mayStart, mayEnd, mayReceive, receiveErrorInRange}
+use Rattle.model.specs.Registers.{registerAt, reset, coreReset, written, writeRefusal, isFree, hasRequest, withControl, withTransmit}
+use Rattle.model.specs.Step.{step, answered, coreAfter, refusal, wordOf, applied, settled, storedBy, startedBy, endedBy, mayStart, mayEnd}
 use Rattle.model.specs.Reachable.{carried}
-use Rattle.model.specs.Requests.{Event, nothing, drops, modes, accepts, aborts, starts, ends, writeEvent, stepEvent, startWord, event, entry}
+use Rattle.model.specs.Requests.{Event, nothing, drops, modes, accepts, starts, ends, writeEvent, stepEvent, startWord, event, entry}
 use Rattle.model.specs.declared.Mailbox.{Mailbox}
 use Rattle.model.specs.declared.Mailbox.the-variants.{M0, M1, M2}
 use Rattle.model.specs.declared.Sender.{Sender}
@@ -24,7 +23,6 @@ use Rattle.model.specs.declared.RequestOrder.{RequestOrder}
 use Rattle.model.specs.declared.RequestOrder.the-variants.{Empty, One, Two, Three}
 use Rattle.model.specs.declared.Fifo.the-variants.{F0, F1}
 use Rattle.model.specs.declared.Identifiers.{Identifiers}
-use Rattle.model.specs.declared.Transmit.{Transmit}
 use Rattle.model.specs.declared.Queue.{Queue}
 use Rattle.model.specs.declared.Mailboxes as boxes
 use Rattle.model.specs.declared.Control as controls

@@ -1,10 +1,9 @@
 -- Steps of callers and of scripts are in range, and a hardware reset makes every start the same.
 use mathlib.Core.List.{List, [], _∷_, _++_}
 use mathlib.Core.Path.{_≡_, refl, sym, subst, ap, _∙_}
-use Prim.Native.Nat.{ℕ, zero, suc, _+_, _-_, _/_, _^_, _<_, _≤_}
+use Prim.Native.Nat.{ℕ, zero, suc, _-_, _/_, _≤_}
 use native.Mathlib.Omega.{arith}
-use lib.Dec.{eqb}
-use lib.ListN.{length, take, drop}
+use lib.ListN.{length, take}
 use borrow.Author.Tests.{le-ltb}
 use Rattle.model.specs.Registers.{reset}
 use Rattle.model.specs.Step.{step}
@@ -12,113 +11,73 @@ use Rattle.model.specs.Requests.{Requests, noneYet, next, requestsAfter,
 use Rattle.model.specs.Fairness.{Fairness, requestsFrom}
 use Rattle.model.specs.Reachable.{InRange, StepRange, StepsRange}
 use Rattle.model.specs.History.{Tied}
-use Rattle.model.specs.Script.{byteAt, number16, number32, bodyLength, decoded, part, reading, recordAt, replayed, begun, afterRecord, advanced, times, replay, stepsBy, stepsFrom, stepsOf}
-use Rattle.model.specs.Records.{Bytes}
-use Rattle.model.specs.Scripts.{isEnd, headerShort, tagUnknown, lengthWrong, bodyShort, behind, answeredSteps}
-use Rattle.model.specs.Anywhere.{InTypes, AllInTypes, OfCallers, OfScripts, FromState, HardwareReset, BehindReset, opened, OpensWithReset}
+use Rattle.model.specs.Script.{bodyLength, decoded, reading, recordAt, replayed, begun, afterRecord, advanced, times, replay, stepsBy, stepsFrom, stepsOf}
+use Rattle.model.specs.Records.{Bytes, stepFields, FitWidths, AllFit}
+use Rattle.model.specs.Scripts.{behind, answeredSteps}
+use Rattle.model.specs.Anywhere.{OfCallers, OfScripts, FromState, HardwareReset, BehindReset, opened, OpensWithReset}
 use Rattle.model.specs.declared.Controller.{Controller}
 use Rattle.model.specs.declared.Reading.{Reading}
-use Rattle.model.specs.declared.Reading.the-variants.{Found}
+use Rattle.model.specs.declared.Reading.the-variants.{End, Malformed, Found}
 use Rattle.model.specs.declared.Step as steps
 use Rattle.model.specs.declared.Step.the-variants.{Reset, Read, Write, Idle, BitTimes, Activity, Start, Outcome, Receive, ReceiveError}
-use Rattle.model.proofs.Choices.{pick-cases}
 use Rattle.model.proofs.Computed.{everything}
 use Rattle.model.proofs.Fair.{Good, run-requests, after-append, good-fair, fairness}
 use Rattle.model.proofs.Reached.{after-in-range, reachable}
 use Rattle.model.proofs.Tied.{tied}
 use Rattle.model.proofs.Replays.{steps-on, replays}
 use Rattle.model.proofs.Parts.{reading-behind, steps-rest}
+use Rattle.model.proofs.Recorded.{record-stands}
 
 -- ---- callers
 
-types-range : (s : steps.Step) → InTypes s → StepRange s
-types-range Reset h = tt
-types-range (Read o) h = tt
-types-range (Write o w) h = h .1
-types-range Idle h = tt
-types-range (BitTimes n) h = tt
-types-range Activity h = tt
-types-range Start h = tt
-types-range (Outcome r) h = tt
-types-range (Receive x) h = (h .0, h .1, h .2)
-types-range (ReceiveError k n) h = tt
+fit-range : (s : steps.Step) → FitWidths (stepFields s) → StepRange s
+fit-range Reset h = tt
+fit-range (Read o) h = tt
+fit-range (Write o w) h = h .1 .0
+fit-range Idle h = tt
+fit-range (BitTimes n) h = tt
+fit-range Activity h = tt
+fit-range Start h = tt
+fit-range (Outcome r) h = tt
+fit-range (Receive x) h = (h .0, h .1 .1 .0, h .1 .1 .1 .0)
+fit-range (ReceiveError k n) h = tt
 
-all-range : (l : List steps.Step) → AllInTypes l → StepsRange l
+all-range : (l : List steps.Step) → AllFit l → StepsRange l
 all-range [] h = tt
-all-range (s ∷ l) h = (types-range s (h .0), all-range l (h .1))
+all-range (s ∷ l) h = (fit-range s (h .0), all-range l (h .1))
 
 pub of-callers : (l : List steps.Step) → OfCallers l
 of-callers l = record { range = all-range l; reachable = λ h. reachable l (all-range l h); tied = λ h. tied l (all-range l h); fair = fairness l }
 
 -- ---- scripts
 
-bytes-tail : (b : ℕ) (s : List ℕ) → Bytes (b ∷ s) → Bytes s
-bytes-tail b s h = λ i. h (suc i)
+-- what is found at a place stands there as its record, and so fits
+found-fit : (s : List ℕ) (p : ℕ) → Bytes s → (l : ℕ → List steps.Step) → ((q : ℕ) → AllFit (l q)) → (r : Reading) → reading s p ≡ r → AllFit (stepsBy r l)
+unfolding stepsBy
+found-fit s p h l m End k = tt
+found-fit s p h l m (Malformed c) k = tt
+found-fit s p h l m (Found e q) k = (record-stands s p .found h e q k .fits, m q)
 
-bytes-drop : (n : ℕ) (s : List ℕ) → Bytes s → Bytes (drop n s)
-bytes-drop zero s h = h
-bytes-drop (suc n) [] h = h
-bytes-drop (suc n) (b ∷ s) h = bytes-drop n s (bytes-tail b s h)
+steps-fit : (n : ℕ) (s : List ℕ) (p : ℕ) → Bytes s → AllFit (stepsFrom n s p)
+unfolding stepsFrom
+steps-fit zero s p h = tt
+steps-fit (suc n) s p h = found-fit s p h (stepsFrom n s) (λ q. steps-fit n s q h) (reading s p) refl
 
-bytes-take : (n : ℕ) (s : List ℕ) → Bytes s → Bytes (take n s)
-bytes-take zero s h i = omega arith
-bytes-take (suc n) [] h i = omega arith
-bytes-take (suc n) (b ∷ s) h zero = h zero
-bytes-take (suc n) (b ∷ s) h (suc i) = bytes-take n s (bytes-tail b s h) i
+fit-take : (n : ℕ) (l : List steps.Step) → AllFit l → AllFit (take n l)
+fit-take zero l h = tt
+fit-take (suc n) [] h = tt
+fit-take (suc n) (s ∷ l) h = (h .0, fit-take n l (h .1))
 
-bytes-part : (s : List ℕ) (a e : ℕ) → Bytes s → Bytes (part s a e)
-bytes-part s a e h = bytes-take (e - a) (drop a s) (bytes-drop a s h)
-
-module _ (b : List ℕ) (h : Bytes b) where
-  small-16 : (i : ℕ) → number16 b i < 2 ^ 16
-  small-16 i = omega (arith, h i, h (i + 1))
-
-  small-32 : (i : ℕ) → number32 b i < 2 ^ 32
-  small-32 i = omega (arith, small-16 i, small-16 (i + 2))
-
-  -- what a body gives is in the types
-  decoded-types : (t : ℕ) → InTypes (decoded t b)
-  unfolding decoded
-  decoded-types t =
-      pick-cases InTypes (eqb t 1) _ _ (λ _. tt)
-      (λ _. pick-cases InTypes (eqb t 2) _ _ (λ _. small-16 0)
-      (λ _. pick-cases InTypes (eqb t 3) _ _ (λ _. (small-16 0, small-32 2))
-      (λ _. pick-cases InTypes (eqb t 4) _ _ (λ _. tt)
-      (λ _. pick-cases InTypes (eqb t 5) _ _ (λ _. small-16 0)
-      (λ _. pick-cases InTypes (eqb t 6) _ _ (λ _. tt)
-      (λ _. pick-cases InTypes (eqb t 7) _ _ (λ _. tt)
-      (λ _. pick-cases InTypes (eqb t 8) _ _ (λ _. h 0)
-      (λ _. pick-cases InTypes (eqb t 9) _ _ (λ _. (small-32 0, small-32 5, small-32 9, h 4))
-      (λ _. (h 0, h 1))))))))))
-
--- each step of a script, by the cases of its reading
-steps-types : (n : ℕ) (s : List ℕ) (p : ℕ) → Bytes s → AllInTypes (stepsFrom n s p)
-unfolding stepsFrom stepsBy reading
-steps-types zero s p h = tt
-steps-types (suc n) s p h =
-    let P : Reading → Type 0 = λ (r : Reading). AllInTypes (stepsBy r (stepsFrom n s)) in
-    pick-cases P (isEnd s p) _ _ (λ _. tt)
-    (λ _. pick-cases P (headerShort s p) _ _ (λ _. tt)
-    (λ _. pick-cases P (tagUnknown s p) _ _ (λ _. tt)
-    (λ _. pick-cases P (lengthWrong s p) _ _ (λ _. tt)
-    (λ _. pick-cases P (bodyShort s p) _ _ (λ _. tt)
-    (λ _. (decoded-types (part s (p + 3) (behind s p)) (bytes-part s (p + 3) (behind s p) h) (byteAt s p), steps-types n s (behind s p) h))))))
-
-types-take : (n : ℕ) (l : List steps.Step) → AllInTypes l → AllInTypes (take n l)
-types-take zero l h = tt
-types-take (suc n) [] h = tt
-types-take (suc n) (s ∷ l) h = (h .0, types-take n l (h .1))
-
-script-types : (s : List ℕ) → Bytes s → AllInTypes (stepsOf s)
+script-fit : (s : List ℕ) → Bytes s → AllFit (stepsOf s)
 unfolding stepsOf
-script-types s h = steps-types (length s) s 0 h
+script-fit s h = steps-fit (length s) s 0 h
 
 answered-range : (s : List ℕ) (space : ℕ) → Bytes s → StepsRange (answeredSteps s space)
-answered-range s space h = all-range (answeredSteps s space) (types-take (space / 9) (stepsOf s) (script-types s h))
+answered-range s space h = all-range (answeredSteps s space) (fit-take (space / 9) (stepsOf s) (script-fit s h))
 
 pub of-scripts : (s : List ℕ) (space : ℕ) → OfScripts s space
 of-scripts s space = record {
-  types = script-types s;
+  fit = script-fit s;
   range = answered-range s space;
   reachable = λ h. rw (replays reset s space .folds .controller) (reachable (answeredSteps s space) (answered-range s space h));
   tied = λ h. tied (answeredSteps s space) (answered-range s space h);

@@ -5,14 +5,14 @@ use Prim.Native.Nat.{ℕ, _+_, _*_, _≤_, _<_}
 use native.Mathlib.Omega.{arith}
 use lib.Dec.{eqb}
 use Rattle.model.specs.Base.{bit, bits, one}
-use Rattle.model.specs.Control.{txfp, statusLine}
+use Rattle.model.specs.Control.{statusLine}
 use Rattle.model.specs.Reception.{fifoLine}
 use Rattle.model.specs.Registers.{isFree, fifoOf}
 use Rattle.model.specs.Step.{step, answered, linesOf, anyRqcp}
-use Rattle.model.specs.Codes.{fifoNumber}
 use Rattle.model.specs.Reachable.{InRange, StepRange}
-use Rattle.model.specs.Shown.{msr, tsr, rfr, ier, nextOf}
+use Rattle.model.specs.Shown.{rqcp, msr, rfr, ier, nextOf, fifoNumber}
 use Rattle.model.specs.Interrupts.{Lines, Interrupts}
+use Rattle.model.specs.declared.Mailbox.the-variants.{M0, M1, M2}
 use Rattle.model.specs.declared.Fifo.{Fifo}
 use Rattle.model.specs.declared.Fifo.the-variants.{F0, F1}
 use Rattle.model.specs.declared.Core.{Core}
@@ -20,7 +20,8 @@ use Rattle.model.specs.declared.Controller.{Controller}
 use Rattle.model.specs.declared.Step as steps
 use Rattle.model.proofs.Choices.{one-le}
 use Rattle.model.proofs.Reached.{step-in-range}
-use Rattle.model.proofs.ShownWords.{msr-shown, tsr-shown, rfr-shown, ier-shown, flag-bit, msr-erri, msr-wkui, msr-slaki, Rqcp, tsr-rqcp, rfr-fmp, rfr-full, rfr-fovr}
+use Rattle.model.proofs.ShownWords.{msr-shown, rfr-shown, ier-shown, flag-bit, msr-erri, msr-wkui, msr-slaki, rfr-fmp, rfr-full, rfr-fovr}
+use Rattle.model.proofs.StatusWord.{flags-shown}
 
 -- ---- the four bits
 
@@ -52,11 +53,9 @@ lines-sum c = refl
 
 -- ---- the flags
 
-transmit-flags : (z : Controller) → up-0 (z .core) ≡ bit 0 (ier z) && (bit 0 (tsr z) || bit 8 (tsr z) || bit 16 (tsr z))
+transmit-flags : (z : Controller) → up-0 (z .core) ≡ bit 0 (ier z) && (rqcp M0 z || rqcp M1 z || rqcp M2 z)
 unfolding anyRqcp
-transmit-flags z =
-    let r : Rqcp (tsr z) (z .core .transmit) = rw (tsr-shown z) (tsr-rqcp (txfp (z .core .control)) (z .core .transmit)) in
-    rw (r .m0, r .m1, r .m2, ier-shown z)
+transmit-flags z = rw (flags-shown z M0 .rqcp, flags-shown z M1 .rqcp, flags-shown z M2 .rqcp, ier-shown z)
 
 fifo-flags : (f : Fifo) (z : Controller) → fifoOf f (z .core) .count ≤ 3
     → fifoUp (z .core) f

@@ -14,8 +14,8 @@ use Rattle.model.specs.Registers.{registerAt, reset, coreReset, written}
 use Rattle.model.specs.Step.{step, answered, coreAfter, refusal, wordOf, applied, settled, mayStart, storedBy, startedBy, endedBy}
 use Rattle.model.specs.Requests.{after}
 use Rattle.model.specs.Reachable.{InRange, StepsRange}
-use Rattle.model.specs.Codes.{shown}
 use Rattle.model.specs.History.{timeAfter, timeNext, timeFrom, timeAt}
+use Rattle.model.specs.Shown.{shown}
 use Rattle.model.specs.declared.Mailbox.{Mailbox}
 use Rattle.model.specs.declared.Mailbox.the-variants.{M0, M1, M2}
 use Rattle.model.specs.declared.Sender.{Sender}
@@ -35,7 +35,8 @@ use Rattle.model.specs.declared.Step.the-variants.{Reset, Read, Write, I
 use Rattle.model.proofs.Choices.{Not, pick-cases}
 use Rattle.model.proofs.Follows.{Startable, startable, start-accepted}
 use Rattle.model.proofs.Mapped.{map}
-use Rattle.model.proofs.HistoryReads.{not-here, mailbox-read}
+use Rattle.model.proofs.RegisterAccess.{elsewhere}
+use Rattle.model.proofs.ShownWords.{tdt-shown}
 use Rattle.model.proofs.Reached.{reset-in-range, step-in-range}
 use Rattle.model.proofs.Timing.{step-timer}
 
@@ -122,7 +123,7 @@ tdt-write M2 c w = masked-time w
 
 write-time : (b : Bool) (m : Mailbox) (o : ℕ) (c : Core) (w : ℕ) → eqb o (0x184 + 0x10 * number m) ≡ b → timeOf m (written (registerAt o) c w) ≡ pick b (bits 16 16 w) (timeOf m c)
 write-time true m o c w e = rw (eqb-true o (0x184 + 0x10 * number m) e, map .found (Tdt m) tt) (tdt-write m c w)
-write-time false m o c w e = ap (λ (n : ℕ). bits 16 16 n) (other-writes m (registerAt o) c w (not-here o (Tdt m) refl e))
+write-time false m o c w e = ap (λ (n : ℕ). bits 16 16 n) (other-writes m (registerAt o) c w (λ i. elsewhere o (Tdt m) i refl e))
 
 -- ---- start and own end
 
@@ -202,5 +203,5 @@ from-reset M2 l = refl
 
 pub time-read : (m : Mailbox) (l : List steps.Step) → StepsRange l → bits 16 16 (shown (after reset l) (0x184 + 0x10 * number m)) ≡ timeAt m reset l
 time-read m l h =
-    ap (λ (w : ℕ). bits 16 16 w) (mailbox-read (after reset l) m .tdt)
+    ap (λ (w : ℕ). bits 16 16 w) (tdt-shown m (after reset l))
     ∙ (run-time m l reset reset-in-range h ∙ from-reset m l)

@@ -14,9 +14,9 @@ use Rattle.model.specs.Control as control
 use Rattle.model.specs.Registers.{registerAt, reset, written, isFree}
 use Rattle.model.specs.Step.{refusal, applied, settled, storedBy, startedBy, endedBy, mayStart}
 use Rattle.model.specs.Reachable.{InRange, StepRange}
-use Rattle.model.specs.Shown.{mcr, msr, ier, Done, nextOf, setsBit, isIdle, isActivity, isStart, isOutcome, resets}
-use Rattle.model.specs.Modes.{touchesMcr, bitTimes, ModeStatus, ModeRule, SleepFlag, Timer, ModeChange, Wake, Modes}
-use Rattle.model.specs.Modes as read
+use Rattle.model.specs.Shown.{mcr, msr, ier, Done, nextOf, writesOne, isIdle, isActivity, isStart, isOutcome, resets, bitTimes}
+use Rattle.model.specs.Modes.{touchesMcr, ModeStatus, ModeRule, SleepFlag, Timer, ModeChange, Wake, Modes}
+use Rattle.model.specs.Shown as read
 use Rattle.model.specs.declared.Mode.{Mode}
 use Rattle.model.specs.declared.Mode.the-variants.{Sleep, Initialization, Normal}
 use Rattle.model.specs.declared.RequestOrder.{RequestOrder}
@@ -278,7 +278,7 @@ module _ (c : Core) (v : List ℕ) where
   idle-went true e f = woke refl refl (rw e) (clear-requests (k .mcr) e .0) (clear-requests (k .mcr) e .1) f
   idle-went false e f = stayed refl (rw e) (rw e (entered-same (isSleep (k .mode)) (k .slaki) (bit 17 (k .ier)))) (λ h a b. no-requests (k .mcr) e a b)
 
-  went : (s : steps.Step) → eqb (refusal c s) 0 ≡ true → Went c (applied c v s) (not (setsBit 0x004 4 s) && k .slaki) (isIdle s) (resets s)
+  went : (s : steps.Step) → eqb (refusal c s) 0 ≡ true → Went c (applied c v s) (not (writesOne 0x004 4 s) && k .slaki) (isIdle s) (resets s)
   unfolding applied refusal reset controlReset ticked woken errorsChanged
   went Reset h = wiped refl refl refl refl refl refl
   went (Read o) h = stayed refl refl refl no-idle
@@ -361,7 +361,7 @@ module _ (c : Core) (v : List ℕ) where
 
   -- ---- WKUI
 
-  applied-wkui : (s : steps.Step) → applied c v s .control .wkui ≡ (isActivity s || (not (resets s || setsBit 0x004 3 s) && k .wkui))
+  applied-wkui : (s : steps.Step) → applied c v s .control .wkui ≡ (isActivity s || (not (resets s || writesOne 0x004 3 s) && k .wkui))
   unfolding applied reset controlReset idled counted entered ticked woken errorsChanged
   applied-wkui Reset = refl
   applied-wkui (Read o) = refl
@@ -433,7 +433,7 @@ module _ (z : Controller) (s : steps.Step) (h : Done z s) where
   d = applied (z .core) (z .banks) s
 
   abbrev x : Bool
-  x = not (setsBit 0x004 4 s) && z .core .control .slaki
+  x = not (writesOne 0x004 4 s) && z .core .control .slaki
 
   way : Went (z .core) d x (isIdle s) (resets s)
   way = went (z .core) (z .banks) s (accepted z s h)
@@ -489,7 +489,7 @@ module _ (z : Controller) (s : steps.Step) (h : Done z s) where
     entered = λ r a b. after-slaki ∙ (slaki-entered (z .core) d x (isIdle s) (resets s) way r (none (sym (shown-slak z) ∙ a)) (sym (shown-slak z) ∙ a) (slak-ruled true b)
         ∙ ap (λ (w : ℕ). bit 17 w) (sym after-ier));
     stayed = λ r a b. after-slaki ∙ (slaki-stayed (z .core) d x (isIdle s) (resets s) way r (sym (shown-slak z) ∙ a) (slak-ruled true b)
-        ∙ ap (λ (q : Bool). not (setsBit 0x004 4 s) && q) (sym (shown-slaki z)));
+        ∙ ap (λ (q : Bool). not (writesOne 0x004 4 s) && q) (sym (shown-slaki z)));
   }
     where
       awake : {a : Bool} (b : Bool) → (b ≡ true → a ≡ true) → a ≡ false → b ≡ false
@@ -501,7 +501,7 @@ module _ (z : Controller) (s : steps.Step) (h : Done z s) where
       and-false false = refl
 
       none : isSleep (z .core .control .mode) ≡ false → x ≡ false
-      none e = ap (λ (q : Bool). not (setsBit 0x004 4 s) && q) (awake (z .core .control .slaki) (p .core .control .slaki) e) ∙ and-false (not (setsBit 0x004 4 s))
+      none e = ap (λ (q : Bool). not (writesOne 0x004 4 s) && q) (awake (z .core .control .slaki) (p .core .control .slaki) e) ∙ and-false (not (writesOne 0x004 4 s))
 
   timed : InRange z → InRange y → Timer z s y
   timed p q = record {

@@ -1,6 +1,6 @@
 -- Facts about the orders of three mailboxes, each by one computed test over all of them.
-use mathlib.Core.Bool.{Bool, true, false, not, _&&_, _||_, Bool·beq, true≢false, false≢true}
-use mathlib.Core.Path.{_≡_, refl, sym, subst, ap, _∙_}
+use mathlib.Core.Bool.{Bool, true, false, not, _&&_, Bool·beq, false≢true}
+use mathlib.Core.Path.{_≡_, refl}
 use Prim.Native.Nat.{ℕ, suc, _≤_}
 use lib.Dec.{leb, eqb}
 use borrow.Author.Tests.{leb-true, eqb-true}
@@ -9,12 +9,10 @@ use Rattle.model.specs.Queue.{same, flag, flagged, holds, joined, withou
 use Rattle.model.specs.Reachable.{distinct}
 use Rattle.model.specs.declared.Mailbox.{Mailbox}
 use Rattle.model.specs.declared.Mailbox.the-variants.{M0, M1, M2}
-use Rattle.model.specs.declared.Sender.{Sender}
-use Rattle.model.specs.declared.Sender.the-variants.{Nobody, From}
 use Rattle.model.specs.declared.RequestOrder.{RequestOrder}
 use Rattle.model.specs.declared.RequestOrder.the-variants.{Empty, One, Two, Three}
 use Rattle.model.specs.declared.MailboxBits.{MailboxBits}
-use Rattle.model.proofs.Choices.{Is, Not, imp, imp-Is, not-Is, Is-not, and-l, and-r, beq-eq}
+use Rattle.model.proofs.Choices.{Is, Not, imp, imp-Is, not-Is, and-l, and-r, beq-eq}
 
 -- a test that holds at each mailbox, at each order
 abbrev pub mailboxes : (Mailbox → Bool) → Bool

@@ -3,8 +3,8 @@
 use mathlib.Core.Path.{_≡_, refl, ap, _∙_}
 use mathlib.Core.Bool.{Bool, true, false}
 use mathlib.Core.List.{List, [], _∷_}
-use mathlib.Core.Logic.{_⊎_, inl, inr, _↔_}
-use Prim.Native.Nat.{ℕ, zero, suc, _≤_, _<_}
+use mathlib.Core.Logic.{inl, inr, _↔_}
+use Prim.Native.Nat.{ℕ, zero, suc, _≤_}
 use native.Mathlib.Nat.{eq-or-lt-of-le}
 use native.Mathlib.Omega.{arith}
 use borrow.Author.Tests.{ltb-true, ltb-false}
@@ -12,8 +12,8 @@ use lib.Dec.{ltb}
 use Rattle.model.specs.Base.{pick}
 use Rattle.model.specs.Banks.{filterNumber}
 use Rattle.model.specs.Search.{better, orNext, chosen}
-use Rattle.model.specs.Codes.{fifoNumber}
 use Rattle.model.specs.Filtering.{NumberNoLater, NoLater}
+use Rattle.model.specs.Shown.{fifoNumber}
 use Rattle.model.specs.declared.Fifo.{Fifo}
 use Rattle.model.specs.declared.Fifo.the-variants.{F0, F1}
 use Rattle.model.specs.declared.FilterNumber.{FilterNumber}

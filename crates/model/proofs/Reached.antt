@@ -16,10 +16,7 @@ use Rattle.model.specs.Mailboxes.{at}
 use Rattle.model.specs.Reachable.{MailboxRange, Words, CoreRange, Followed, InRange, StepRange, StepsRange}
 use Rattle.model.specs.declared.Mailbox.{Mailbox}
 use Rattle.model.specs.declared.Mailbox.the-variants.{M0, M1, M2}
-use Rattle.model.specs.declared.Fifo.{Fifo}
 use Rattle.model.specs.declared.Filters.{Filters}
-use Rattle.model.specs.declared.FilterNumber.{FilterNumber}
-use Rattle.model.specs.declared.Acceptance.the-variants.{Into}
 use Rattle.model.specs.declared.Core.{Core}
 use Rattle.model.specs.declared.Controller.{Controller}
 use Rattle.model.specs.declared.Step.{Step}

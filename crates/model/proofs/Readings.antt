@@ -9,11 +9,10 @@ use lib.ListN.{length, drop, length-append, length-drop}
 use lib.Seq.{take-append-seam, drop-append-seam}
 use borrow.Author.Tests.{ltb-false, leb-true, leb-false, lt-leb, le-leb, ne-eqb}
 use Rattle.model.specs.Base.{pick}
-use Rattle.model.specs.Step.{refusal, answered, step}
+use Rattle.model.specs.Step.{answered, step}
 use Rattle.model.specs.Script.{byteAt, bodyLength, reading, readingCode, reply, stayed, atEnd, passed, replayed, recordAt, replyOf, overwritten, stops}
 use Rattle.model.specs.Records.{stepNumbers, readingNumbers}
 use Rattle.model.specs.Scripts.{isEnd, noSpace, headerShort, tagUnknown, lengthWrong, bodyShort, behind, stepAt, ReadingCodes, Unchanged, Answers, Overwrites, RecordCodes}
-use Rattle.model.specs.declared.Core.{Core}
 use Rattle.model.specs.declared.Controller.{Controller}
 use Rattle.model.specs.declared.Stepped.{Stepped}
 use Rattle.model.specs.declared.Reading.{Reading}

@@ -11,8 +11,8 @@ use Rattle.model.specs.Base.{pick, bit, bits, one}
 use Rattle.model.specs.Control.{awum, sleepCleared, entered, idled, counted, ticked, woken, errorsChanged, masterReset, mcrWritten, msrWritten, ierWritten, btrWritten, mcrMasked, ierMasked, btrMasked}
 use Rattle.model.specs.Registers.{registerAt, isAbsent, reset, coreReset, written, writeRefusal, readWord, isFree, filterMasked, bankWord, bankCount}
 use Rattle.model.specs.Step.{step, answered, refusal, wordOf, applied, settled, storedBy, startedBy, endedBy}
-use Rattle.model.specs.Codes.{offsetOf, IsPresent}
-use Rattle.model.specs.ReadBack.{reads, Accepts, afterWrite, Within, ReadBack, sets, Stays, OnlyWrites, has, ResetWords}
+use Rattle.model.specs.Codes.{offsetOf, IsPresent, reads}
+use Rattle.model.specs.ReadBack.{Accepts, afterWrite, Within, ReadBack, sets, Stays, OnlyWrites, has, ResetWords}
 use Rattle.model.specs.declared.Mailbox.the-variants.{M0, M1, M2}
 use Rattle.model.specs.declared.Bank.{Bank}
 use Rattle.model.specs.declared.Sender.{Sender}

@@ -12,8 +12,8 @@ use Rattle.model.specs.Control.{txfp}
 use Rattle.model.specs.Control as control
 use Rattle.model.specs.Registers.{registerAt, isAbsent, written, writeRefusal, readWord, withTransmit}
 use Rattle.model.specs.Step.{step, answered, coreAfter, refusal, wordOf, applied, settled, startedBy, mayStart}
-use Rattle.model.specs.Codes.{offsetOf, IsPresent}
-use Rattle.model.specs.ReadBack.{reads, Accepts, afterWrite}
+use Rattle.model.specs.Codes.{offsetOf, IsPresent, reads}
+use Rattle.model.specs.ReadBack.{Accepts, afterWrite}
 use Rattle.model.specs.declared.Mailbox.{Mailbox}
 use Rattle.model.specs.declared.Sender.{Sender}
 use Rattle.model.specs.declared.Sender.the-variants.{From}

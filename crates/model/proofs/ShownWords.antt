@@ -1,16 +1,19 @@
--- What each register read shows, and the bits of MSR, TSR, RFxR and ESR.
+-- What each register read shows, and the bits of MSR, RFxR and ESR. Those of TSR are in StatusWord.
 use mathlib.Core.Bool.{Bool, not}
-use mathlib.Core.Path.{_≡_, refl}
+use mathlib.Core.Path.{_≡_, refl, ap, _∙_}
 use Prim.Native.Nat.{ℕ, _+_, _*_, _/_, _%_, _^_, _≤_, _<_}
 use native.Mathlib.Omega.{arith}
+use lib.Dec.{eqb}
 use Rattle.model.specs.Base.{bit, bits, one}
-use Rattle.model.specs.Mailboxes.{tsrByte, code, low, tme}
+use Rattle.model.specs.Queue.{holds}
+use Rattle.model.specs.Mailboxes.{at, tiWord}
 use Rattle.model.specs.Mailboxes as mailboxes
 use Rattle.model.specs.Reception.{rfrWord, output}
-use Rattle.model.specs.Control.{txfp, modeBits, msrWord, esrWord, ewgf, epvf, boff}
-use Rattle.model.specs.Registers.{registerAt, controlRegister, blockRegister, outputRegister, filterRegister, readWord, fifoOf, isFree}
+use Rattle.model.specs.Control.{txfp, isSleep, isInitialization, modeBits, msrWord, esrWord, ewgf, epvf, boff}
+use Rattle.model.specs.Registers.{registerAt, controlRegister, blockRegister, mailboxRegister, outputRegister, filterRegister, readWord, fifoOf, isFree}
 use Rattle.model.specs.Step.{step, answered, refusal, wordOf}
-use Rattle.model.specs.Shown.{mcr, msr, tsr, rfr, ier, esr, btr, fmr, ri, rdt, rdl, rdh}
+use Rattle.model.specs.Shown.{mcr, msr, tsr, rfr, ier, esr, btr, fmr, fm1r, fs1r, ffa1r, fa1r, ri, rdt, rdl, rdh, ti, tdt, tdl, tdh}
+use Rattle.model.specs.declared.Mailbox.{Mailbox}
 use Rattle.model.specs.declared.Fifo.{Fifo}
 use Rattle.model.specs.declared.Fifo.the-variants.{F0, F1}
 use Rattle.model.specs.declared.Mode.{Mode}
@@ -19,8 +22,6 @@ use Rattle.model.specs.declared.Control.{Control}
 use Rattle.model.specs.declared.Errors.{Errors}
 use Rattle.model.specs.declared.FifoState.{FifoState}
 use Rattle.model.specs.declared.Mailbox.the-variants.{M0, M1, M2}
-use Rattle.model.specs.declared.MailboxState.{MailboxState}
-use Rattle.model.specs.declared.Transmit.{Transmit}
 use Rattle.model.specs.declared.Controller.{Controller}
 use Rattle.model.proofs.Choices.{one-le, one-bit}
 use Rattle.model.proofs.Masks.{field}
@@ -60,6 +61,22 @@ pub fmr-shown : (z : Controller) → fmr z ≡ 0x2A1C0E00 + one (z .core .filter
 unfolding step answered refusal wordOf registerAt filterRegister readWord
 fmr-shown z = refl
 
+pub fm1r-shown : (z : Controller) → fm1r z ≡ z .core .filters .mode
+unfolding step answered refusal wordOf registerAt filterRegister readWord
+fm1r-shown z = refl
+
+pub fs1r-shown : (z : Controller) → fs1r z ≡ z .core .filters .scale
+unfolding step answered refusal wordOf registerAt filterRegister readWord
+fs1r-shown z = refl
+
+pub ffa1r-shown : (z : Controller) → ffa1r z ≡ z .core .filters .assignment
+unfolding step answered refusal wordOf registerAt filterRegister readWord
+ffa1r-shown z = refl
+
+pub fa1r-shown : (z : Controller) → fa1r z ≡ z .core .filters .activation
+unfolding step answered refusal wordOf registerAt filterRegister readWord
+fa1r-shown z = refl
+
 pub ri-shown : (f : Fifo) (z : Controller) → ri f z ≡ output (fifoOf f (z .core)) .ri
 unfolding step answered refusal wordOf registerAt blockRegister outputRegister readWord
 ri-shown F0 z = refl
@@ -80,12 +97,56 @@ unfolding step answered refusal wordOf registerAt blockRegister outputRegister r
 rdh-shown F0 z = refl
 rdh-shown F1 z = refl
 
+pub ti-shown : (m : Mailbox) (z : Controller) → ti m z ≡ at (z .core .transmit .mailboxes) m .ti / 2 * 2 + one (holds (z .core .transmit .queue .order) m)
+unfolding step answered refusal wordOf registerAt blockRegister mailboxRegister readWord tiWord
+ti-shown M0 z = refl
+ti-shown M1 z = refl
+ti-shown M2 z = refl
+
+pub tdt-shown : (m : Mailbox) (z : Controller) → tdt m z ≡ at (z .core .transmit .mailboxes) m .tdt
+unfolding step answered refusal wordOf registerAt blockRegister mailboxRegister readWord
+tdt-shown M0 z = refl
+tdt-shown M1 z = refl
+tdt-shown M2 z = refl
+
+pub tdl-shown : (m : Mailbox) (z : Controller) → tdl m z ≡ at (z .core .transmit .mailboxes) m .tdl
+unfolding step answered refusal wordOf registerAt blockRegister mailboxRegister readWord
+tdl-shown M0 z = refl
+tdl-shown M1 z = refl
+tdl-shown M2 z = refl
+
+pub tdh-shown : (m : Mailbox) (z : Controller) → tdh m z ≡ at (z .core .transmit .mailboxes) m .tdh
+unfolding step answered refusal wordOf registerAt blockRegister mailboxRegister readWord
+tdh-shown M0 z = refl
+tdh-shown M1 z = refl
+tdh-shown M2 z = refl
+
 -- ---- a flag b in a sum: c below it, a above
 
 pub flag-bit : (i n a c : ℕ) (b : Bool) → n ≡ (a * 2 + one b) * 2 ^ i + c → c < 2 ^ i → bit i n ≡ b
 flag-bit i n a c b e l = let h : one b < 2 = omega (arith, one-le b) in one-bit (n / 2 ^ i % 2) b (field (2 ^ i) 2 n a (one b) c e l h)
 
 -- ---- MSR
+
+module _ (m a b c d : ℕ) where
+  abbrev sum : ℕ
+  sum = m + a * 4 + b * 8 + c * 16 + d * 256 + 0xC00
+
+  sum-0 : sum / 2 ^ 0 % 2 ≡ m % 2
+  sum-0 = omega arith
+
+  sum-1 : sum / 2 ^ 1 % 2 ≡ m / 2 % 2
+  sum-1 = omega arith
+
+mode-inak : (m : Mode) → eqb (modeBits m % 2) 1 ≡ isInitialization m
+mode-inak Normal = refl
+mode-inak Initialization = refl
+mode-inak Sleep = refl
+
+mode-slak : (m : Mode) → eqb (modeBits m / 2 % 2) 1 ≡ isSleep m
+mode-slak Normal = refl
+mode-slak Initialization = refl
+mode-slak Sleep = refl
 
 module _ (k : Control) (free : Bool) where
   abbrev e : ℕ
@@ -113,6 +174,14 @@ module _ (k : Control) (free : Bool) where
   unfolding msrWord
   msr-mode = omega (arith, mode-bits-small)
 
+  pub msr-inak : bit 0 (msrWord k free) ≡ isInitialization (k .mode)
+  unfolding msrWord
+  msr-inak = ap (λ (x : ℕ). eqb x 1) (sum-0 (modeBits (k .mode)) e w s t) ∙ mode-inak (k .mode)
+
+  pub msr-slak : bit 1 (msrWord k free) ≡ isSleep (k .mode)
+  unfolding msrWord
+  msr-slak = ap (λ (x : ℕ). eqb x 1) (sum-1 (modeBits (k .mode)) e w s t) ∙ mode-slak (k .mode)
+
   pub msr-erri : bit 2 (msrWord k free) ≡ k .erri
   unfolding msrWord
   msr-erri = flag-bit 2 (msrWord k free) (w + s * 2 + t * 32 + 0x180) (modeBits (k .mode)) (k .erri) (omega arith) (omega (arith, mode-bits-small))
@@ -136,48 +205,6 @@ module _ (k : Control) (free : Bool) where
   pub msr-rest : (bits 5 3 (msrWord k free) ≡ 0) × (msrWord k free / 2 ^ 9 ≡ 6)
   unfolding msrWord
   msr-rest = (omega (arith, below-txm, one-le (not free)), omega (arith, below-txm, one-le (not free)))
-
--- ---- TSR
-
--- what stands above RQCP in a mailbox's byte
-unfoldable above-rqcp : MailboxState → Bool → ℕ
-above-rqcp x a = one (x .txok) + one (x .alst) * 2 + one (x .terr) * 4 + one a * 64
-
-rqcp-byte : (x : MailboxState) (a : Bool) → (tsrByte x a ≡ one (x .rqcp) + above-rqcp x a * 2) × (above-rqcp x a < 128)
-unfolding tsrByte above-rqcp
-rqcp-byte x a = (omega arith, omega (arith, one-le (x .txok), one-le (x .alst), one-le (x .terr), one-le a))
-
-pub record Rqcp (n : ℕ) (t : Transmit) : Type 0 where
-  pub m0 : bit 0 n ≡ t .mailboxes .m0 .rqcp
-  pub m1 : bit 8 n ≡ t .mailboxes .m1 .rqcp
-  pub m2 : bit 16 n ≡ t .mailboxes .m2 .rqcp
-
--- the bytes of three mailboxes, r above them
-rqcp-bits : (n r : ℕ) (t : Transmit)
-    → n ≡ tsrByte (t .mailboxes .m0) (t .queue .aborts .m0) + tsrByte (t .mailboxes .m1) (t .queue .aborts .m1) * 2 ^ 8 + tsrByte (t .mailboxes .m2) (t .queue .aborts .m2) * 2 ^ 16 + r * 2 ^ 24
-    → Rqcp n t
-rqcp-bits n r t e =
-    let x = rqcp-byte (t .mailboxes .m0) (t .queue .aborts .m0) in
-    let y = rqcp-byte (t .mailboxes .m1) (t .queue .aborts .m1) in
-    let v = rqcp-byte (t .mailboxes .m2) (t .queue .aborts .m2) in
-    let a : ℕ = above-rqcp (t .mailboxes .m0) (t .queue .aborts .m0) in
-    let b : ℕ = above-rqcp (t .mailboxes .m1) (t .queue .aborts .m1) in
-    let c : ℕ = above-rqcp (t .mailboxes .m2) (t .queue .aborts .m2) in
-    let p : ℕ = one (t .mailboxes .m0 .rqcp) in
-    let q : ℕ = one (t .mailboxes .m1 .rqcp) in
-    let s : ℕ = one (t .mailboxes .m2 .rqcp) in
-    record {
-      m0 = flag-bit 0 n (a + (q + b * 2) * 2 ^ 7 + (s + c * 2) * 2 ^ 15 + r * 2 ^ 23) 0 (t .mailboxes .m0 .rqcp) (omega arith) (omega arith);
-      m1 = flag-bit 8 n (b + (s + c * 2) * 2 ^ 7 + r * 2 ^ 15) (p + a * 2) (t .mailboxes .m1 .rqcp) (omega arith) (omega (arith, one-le (t .mailboxes .m0 .rqcp)));
-      m2 = flag-bit 16 n (c + r * 2 ^ 7) (p + a * 2 + (q + b * 2) * 2 ^ 8) (t .mailboxes .m2 .rqcp) (omega arith) (omega (arith, one-le (t .mailboxes .m0 .rqcp), one-le (t .mailboxes .m1 .rqcp)));
-    }
-
-pub tsr-rqcp : (txfp : Bool) (t : Transmit) → Rqcp (mailboxes.tsr txfp t) t
-unfolding mailboxes.tsr
-tsr-rqcp txfp t =
-    rqcp-bits (mailboxes.tsr txfp t)
-    (code txfp t + one (tme t M0) * 2 ^ 2 + one (tme t M1) * 2 ^ 3 + one (tme t M2) * 2 ^ 4 + one (low txfp t M0) * 2 ^ 5 + one (low txfp t M1) * 2 ^ 6 + one (low txfp t M2) * 2 ^ 7)
-    t (omega arith)
 
 -- ---- RFxR
 

@@ -1,16 +1,16 @@
--- What TSR shows: the flags of each mailbox, CODE, TME and LOW.
+-- CODE and LOW in the words of priority.
 use mathlib.Core.Bool.{Bool, true, false, not, true≢false, false≢true}
 use mathlib.Core.Path.{_≡_, refl, sym, ap, _∙_}
-use Prim.Native.Nat.{ℕ, _+_, _*_, _<_, _≤_}
+use Prim.Native.Nat.{_<_, _≤_}
 use native.Mathlib.Omega.{arith}
 use lib.ListN.{length}
-use Rattle.model.specs.Base.{bit, bits}
-use Rattle.model.specs.Queue.{number, flag, holds, without, isFrom, isEmpty, twoOrMore, besides, orderNumbers, senderNumbers}
-use Rattle.model.specs.Mailboxes.{at, identifiers, lastOf, tme, low, code}
+use Rattle.model.specs.Queue.{number, holds, without, isFrom, isEmpty, twoOrMore, besides, orderNumbers, senderNumbers}
+use Rattle.model.specs.Mailboxes.{identifiers, lastOf, tme, low, code}
 use Rattle.model.specs.Control.{txfp}
 use Rattle.model.specs.Reachable.{distinct, InRange}
+use Rattle.model.specs.Shown as read
 use Rattle.model.specs.Arbitration.{requests, IsLast, Some}
-use Rattle.model.specs.TransmitStatus.{statusBit, rqcpOf, txokOf, alstOf, terrOf, abrqOf, codeOf, tmeOf, lowOf, StatusWord}
+use Rattle.model.specs.TransmitStatus.{StatusWord}
 use Rattle.model.specs.declared.Mailbox.{Mailbox}
 use Rattle.model.specs.declared.Mailbox.the-variants.{M0, M1, M2}
 use Rattle.model.specs.declared.Sender.{Sender}
@@ -21,39 +21,8 @@ use Rattle.model.specs.declared.Transmit.{Transmit}
 use Rattle.model.specs.declared.Controller.{Controller}
 use Rattle.model.proofs.Choices.{imp, imp-Is, Is-not, and-l, and-r}
 use Rattle.model.proofs.Orders.{each-order, same-eq}
-use Rattle.model.proofs.StatusWord.{bits-of, code-bits}
-use Rattle.model.proofs.WordsKept.{tsr-read}
+use Rattle.model.proofs.StatusWord.{flags-shown, code-shown}
 use Rattle.model.proofs.Arbitrated.{each-of, has-order, same-self, last-somebody, is-last, last-unique, waiting-by}
-
--- ---- the flags
-
-pub record Shown (z : Controller) (m : Mailbox) : Type 0 where
-  pub rqcp : rqcpOf z m ≡ at (z .core .transmit .mailboxes) m .rqcp
-  pub txok : txokOf z m ≡ at (z .core .transmit .mailboxes) m .txok
-  pub alst : alstOf z m ≡ at (z .core .transmit .mailboxes) m .alst
-  pub terr : terrOf z m ≡ at (z .core .transmit .mailboxes) m .terr
-  pub abrq : abrqOf z m ≡ flag (z .core .transmit .queue .aborts) m
-  pub tme : tmeOf z m ≡ not (holds (z .core .transmit .queue .order) m)
-  pub low : lowOf z m ≡ low (txfp (z .core .control)) (z .core .transmit) m
-  pub reserved : (statusBit 4 z m ≡ false) × (statusBit 5 z m ≡ false) × (statusBit 6 z m ≡ false)
-
-pub shown : (z : Controller) (m : Mailbox) → Shown z m
-shown z m =
-    let s = bits-of (txfp (z .core .control)) (z .core .transmit) m in
-    let e = tsr-read z in
-    record {
-      rqcp = ap (λ (w : ℕ). bit (8 * number m + 0) w) e ∙ s .rqcp;
-      txok = ap (λ (w : ℕ). bit (8 * number m + 1) w) e ∙ s .txok;
-      alst = ap (λ (w : ℕ). bit (8 * number m + 2) w) e ∙ s .alst;
-      terr = ap (λ (w : ℕ). bit (8 * number m + 3) w) e ∙ s .terr;
-      abrq = ap (λ (w : ℕ). bit (8 * number m + 7) w) e ∙ s .abrq;
-      tme = ap (λ (w : ℕ). bit (26 + number m) w) e ∙ s .tme;
-      low = ap (λ (w : ℕ). bit (29 + number m) w) e ∙ s .low;
-      reserved = (ap (λ (w : ℕ). bit (8 * number m + 4) w) e ∙ s .bit4, ap (λ (w : ℕ). bit (8 * number m + 5) w) e ∙ s .bit5, ap (λ (w : ℕ). bit (8 * number m + 6) w) e ∙ s .bit6);
-    }
-
-code-shown : (z : Controller) → codeOf z ≡ code (txfp (z .core .control)) (z .core .transmit)
-code-shown z = ap (λ (w : ℕ). bits 24 2 w) (tsr-read z) ∙ code-bits (txfp (z .core .control)) (z .core .transmit)
 
 -- ---- who is left besides the one on the wire
 
@@ -128,19 +97,19 @@ module _ (z : Controller) (i : InRange z) where
       let e : s .mailbox ≡ m = last-unique z d (s .mailbox) m (is-last z d (s .mailbox) (s .is)) l in
       rw (long-two (t .queue .order) n, s .is, e) (same-self m)
 
-  some-last : 2 ≤ length (requests z) → Some (λ x. lowOf z x ≡ true)
+  some-last : 2 ≤ length (requests z) → Some (λ x. read.low x z ≡ true)
   some-last n =
       let s = last-somebody p (identifiers (t .mailboxes)) (besides (t .queue .transmitting) (t .queue .order)) (two-some (t .queue .transmitting) (t .queue .order) d (long-two (t .queue .order) n)) in
-      record { mailbox = s .mailbox; meets = shown z (s .mailbox) .low ∙ last-shown (s .mailbox) n (is-last z d (s .mailbox) (s .is)) }
+      record { mailbox = s .mailbox; meets = flags-shown z (s .mailbox) .low ∙ last-shown (s .mailbox) n (is-last z d (s .mailbox) (s .is)) }
 
   pub status-word : (m : Mailbox) → StatusWord z m
   status-word m = record {
-    tme = shown z m .tme ∙ ap not (sym (has-order (t .queue .order) m));
-    codeEmpty = λ h f. code-shown z ∙ lowest-empty m (sym (shown z m .tme) ∙ h) (λ x l. sym (shown z x .tme) ∙ f x l);
-    codeFull = λ f. rw (code-shown z) (none-empty (λ x. sym (shown z x .tme) ∙ f x));
-    low = λ h. shows-last m (sym (shown z m .low) ∙ h);
-    lowest = λ n l. shown z m .low ∙ last-shown m n l;
+    empty = flags-shown z m .tme ∙ ap not (sym (has-order (t .queue .order) m));
+    codeEmpty = λ h f. code-shown z ∙ lowest-empty m (sym (flags-shown z m .tme) ∙ h) (λ x l. sym (flags-shown z x .tme) ∙ f x l);
+    codeFull = λ f. rw (code-shown z) (none-empty (λ x. sym (flags-shown z x .tme) ∙ f x));
+    lowLast = λ h. shows-last m (sym (flags-shown z m .low) ∙ h);
+    lowest = λ n l. flags-shown z m .low ∙ last-shown m n l;
     lowSome = some-last;
-    abrq = λ h. ap senderNumbers (from-is (t .queue .transmitting) m (i .core .transmit .queue .aborts m (sym (shown z m .abrq) ∙ h)));
-    reserved = shown z m .reserved;
+    abrq = λ h. ap senderNumbers (from-is (t .queue .transmitting) m (i .core .transmit .queue .aborts m (sym (flags-shown z m .abrq) ∙ h)));
+    reserved = flags-shown z m .reserved;
   }

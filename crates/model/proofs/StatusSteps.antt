@@ -45,7 +45,7 @@ use Rattle.model.proofs.Follows.{viewOf, follows}
 use Rattle.model.proofs.RegisterAccess.{write-core, accepts, accepted, elsewhere, step-keeps}
 use Rattle.model.proofs.WordsKept.{put-there, put-field, number-eq}
 use Rattle.model.proofs.Arbitrated.{pending-by, each-of, has-wire, same-self, mcr-read}
-use Rattle.model.proofs.StatusShown.{shown}
+use Rattle.model.proofs.StatusWord.{flags-shown}
 
 -- ---- lists of numbers, by computed tests
 
@@ -232,8 +232,8 @@ tsr-write z w m i =
     let e : y .core .transmit ≡ tsrWritten t w = tsr-after z w in
     let u = tsr-cleared t w m in
     let a : asksAbort w (number m) && isPending z m ≡ aborts t w m = ap (λ (b : Bool). asksAbort w (number m) && b) (pending-by z m) in
-    let s = shown z m in
-    let v = shown y m in
+    let s = flags-shown z m in
+    let v = flags-shown y m in
     record {
       rqcp = v .rqcp ∙ ap (λ (x : Transmit). at (x .mailboxes) m .rqcp) e ∙ u .rqcp ∙ sym (ap₂ (λ (x b : Bool). (x && not (bit (8 * number m) w)) || b) (s .rqcp) a);
       txok = v .txok ∙ ap (λ (x : Transmit). at (x .mailboxes) m .txok) e ∙ u .txok ∙ sym (ap₂ (λ (x b : Bool). x && not (bit (8 * number m) w) && not (bit (8 * number m + 1) w) && not b) (s .txok) a);
@@ -277,8 +277,8 @@ ti-write z m w i h =
     let x : MailboxState = tiWritten (at (t .mailboxes) m) w in
     let p : at (requestedBy t m w .mailboxes) m ≡ x = put-there (t .mailboxes) m x in
     let b : at (y .core .transmit .mailboxes) m ≡ x = ap (λ (x : Transmit). at (x .mailboxes) m) e ∙ p in
-    let s = shown z m in
-    let v = shown y m in
+    let s = flags-shown z m in
+    let v = flags-shown y m in
     record {
       rqcp = v .rqcp ∙ ap (λ (x : MailboxState). x .rqcp) b ∙ sym (ap (λ (x : Bool). x && not (bit 0 w)) (s .rqcp));
       txok = v .txok ∙ ap (λ (x : MailboxState). x .txok) b ∙ sym (ap (λ (x : Bool). x && not (bit 0 w)) (s .txok));
@@ -306,8 +306,8 @@ requests-dropped z w m h =
     record {
       requests = ap (λ (x : Transmit). orderNumbers (x .queue .order)) e;
       wire = ap (λ (x : Transmit). senderNumbers (x .queue .transmitting)) e;
-      rqcp = shown y m .rqcp ∙ ap (λ (x : Transmit). at (x .mailboxes) m .rqcp) e ∙ sym (shown z m .rqcp);
-      abrq = shown y m .abrq ∙ ap (λ (x : Transmit). flag (x .queue .aborts) m) e ∙ no-flag m;
+      rqcp = flags-shown y m .rqcp ∙ ap (λ (x : Transmit). at (x .mailboxes) m .rqcp) e ∙ sym (flags-shown z m .rqcp);
+      abrq = flags-shown y m .abrq ∙ ap (λ (x : Transmit). flag (x .queue .aborts) m) e ∙ no-flag m;
     }
 
 -- ---- own end
@@ -365,10 +365,10 @@ own-end z m r i f h =
     let e : y .core .transmit ≡ ended t m r n = ended-after z m r w h in
     let x : MailboxState = outcomeFlags (at (t .mailboxes) m) r b in
     let p : at (y .core .transmit .mailboxes) m ≡ x = ap (λ (x : Transmit). at (x .mailboxes) m) e ∙ put-there (t .mailboxes) m x in
-    let k : endsRequest z m r ≡ b = ap₂ (λ (u v : Bool). eqb r 0 || u || v) (ap (λ (w : ℕ). bit 4 w) (mcr-read z)) (shown z m .abrq) in
+    let k : endsRequest z m r ≡ b = ap₂ (λ (u v : Bool). eqb r 0 || u || v) (ap (λ (w : ℕ). bit 4 w) (mcr-read z)) (flags-shown z m .abrq) in
     let held : holds (t .queue .order) m ≡ true = ap (λ (v : Sender). carried v (t .queue .order)) (sym w) ∙ i .core .transmit .queue .carries in
     let none : at (t .mailboxes) m .rqcp ≡ false = i .core .transmit .pending m held in
-    let v = shown y m in
+    let v = flags-shown y m in
     record {
       rqcp = v .rqcp ∙ ap (λ (x : MailboxState). x .rqcp) p ∙ ap (λ (c : Bool). c || b) none ∙ sym k;
       txok = v .txok ∙ ap (λ (x : MailboxState). x .txok) p;
@@ -453,8 +453,8 @@ unfolding settled
 flags-stay z s m h =
     let y : Controller = step z s .controller in
     let e : flagsAt (y .core) m ≡ flagsAt (z .core) m = step-keeps (λ (c : Core). flagsAt c m) z s (λ c. refl) (λ _. applied-flags s z m h) in
-    let v = shown y m in
-    let u = shown z m in
+    let v = flags-shown y m in
+    let u = flags-shown z m in
     record {
       rqcp = v .rqcp ∙ ap (λ (x : Flags). x .rqcp) e ∙ sym (u .rqcp);
       txok = v .txok ∙ ap (λ (x : Flags). x .txok) e ∙ sym (u .txok);
@@ -469,5 +469,5 @@ requests-stay z s h =
     record {
       requests = ap (λ (q : Queue). orderNumbers (q .order)) e;
       wire = ap (λ (q : Queue). senderNumbers (q .transmitting)) e;
-      abrq = λ m. shown y m .abrq ∙ ap (λ (q : Queue). flag (q .aborts) m) e ∙ sym (shown z m .abrq);
+      abrq = λ m. flags-shown y m .abrq ∙ ap (λ (q : Queue). flag (q .aborts) m) e ∙ sym (flags-shown z m .abrq);
     }

@@ -1,21 +1,25 @@
--- TSR bit by bit.
-use mathlib.Core.Bool.{Bool, true, false}
+-- TSR bit by bit, and what a read of it shows.
+use mathlib.Core.Bool.{Bool, true, false, not}
 use mathlib.Core.List.{List, [], _∷_}
 use mathlib.Core.Path.{_≡_, refl, sym, ap, _∙_}
 use Prim.Native.Nat.{ℕ, zero, suc, _+_, _*_, _/_, _%_, _^_, _≤_}
 use native.Mathlib.Omega.{arith}
 use borrow.Author.Tests.{eqb-true, eqb-false}
 use Rattle.model.specs.Base.{bit, bits, one}
-use Rattle.model.specs.Queue.{number, senderNumber, flag}
+use Rattle.model.specs.Queue.{number, senderNumber, flag, holds}
 use Rattle.model.specs.Mailboxes.{at, tme, low, code, tsrByte, tsr, lastOf}
+use Rattle.model.specs.Control.{txfp}
+use Rattle.model.specs.Shown as read
 use Rattle.model.specs.declared.Mailbox.{Mailbox}
 use Rattle.model.specs.declared.Mailbox.the-variants.{M0, M1, M2}
 use Rattle.model.specs.declared.Sender.{Sender}
 use Rattle.model.specs.declared.Sender.the-variants.{Nobody, From}
 use Rattle.model.specs.declared.Transmit.{Transmit}
 use Rattle.model.specs.declared.MailboxState.{MailboxState}
+use Rattle.model.specs.declared.Controller.{Controller}
 use Rattle.model.proofs.Choices.{one-le, one-bit, pick-cases}
 use Rattle.model.proofs.MaskedBits.{next-bit, no-bit}
+use Rattle.model.proofs.ShownWords.{tsr-shown}
 
 -- ---- a word from its bits, the lowest first
 
@@ -48,7 +52,7 @@ bit-number i w = go (bit i w) refl
 
 -- ---- TSR
 
-sender-small : (v : Sender) → senderNumber v ≤ 3
+pub sender-small : (v : Sender) → senderNumber v ≤ 2
 sender-small Nobody = omega arith
 sender-small (From M0) = omega arith
 sender-small (From M1) = omega arith
@@ -59,7 +63,7 @@ unfolding code
 code-small p t =
     pick-cases (λ (n : ℕ). n ≤ 3) (tme t M0) _ _ (λ _. omega arith)
     (λ _. pick-cases (λ (n : ℕ). n ≤ 3) (tme t M1) _ _ (λ _. omega arith)
-    (λ _. pick-cases (λ (n : ℕ). n ≤ 3) (tme t M2) _ _ (λ _. omega arith) (λ _. sender-small (lastOf p t))))
+    (λ _. pick-cases (λ (n : ℕ). n ≤ 3) (tme t M2) _ _ (λ _. omega arith) (λ _. omega (arith, sender-small (lastOf p t)))))
 
 abbrev byte : MailboxState → Bool → List Bool → List Bool
 byte x abort l = x .rqcp ∷ x .txok ∷ x .alst ∷ x .terr ∷ false ∷ false ∷ false ∷ abort ∷ l
@@ -128,3 +132,33 @@ code-bits p t =
         let s : w / 2 ^ 25 ≡ w / 2 ^ 24 / 2 = omega arith in
         let d : k / 2 ^ 0 ≡ k = omega arith in
         digits (w / 2 ^ 24) k l (a ∙ ap (λ (n : ℕ). n % 2) d) (ap (λ (n : ℕ). n % 2) (sym s) ∙ b)
+
+-- ---- what a read of TSR shows of a state
+
+pub record FlagsShown (z : Controller) (m : Mailbox) : Type 0 where
+  pub rqcp : read.rqcp m z ≡ at (z .core .transmit .mailboxes) m .rqcp
+  pub txok : read.txok m z ≡ at (z .core .transmit .mailboxes) m .txok
+  pub alst : read.alst m z ≡ at (z .core .transmit .mailboxes) m .alst
+  pub terr : read.terr m z ≡ at (z .core .transmit .mailboxes) m .terr
+  pub abrq : read.abrq m z ≡ flag (z .core .transmit .queue .aborts) m
+  pub tme : read.tme m z ≡ not (holds (z .core .transmit .queue .order) m)
+  pub low : read.low m z ≡ low (txfp (z .core .control)) (z .core .transmit) m
+  pub reserved : (read.statusBit 4 m z ≡ false) × (read.statusBit 5 m z ≡ false) × (read.statusBit 6 m z ≡ false)
+
+pub flags-shown : (z : Controller) (m : Mailbox) → FlagsShown z m
+flags-shown z m =
+    let s = bits-of (txfp (z .core .control)) (z .core .transmit) m in
+    let e = tsr-shown z in
+    record {
+      rqcp = ap (λ (w : ℕ). bit (8 * number m + 0) w) e ∙ s .rqcp;
+      txok = ap (λ (w : ℕ). bit (8 * number m + 1) w) e ∙ s .txok;
+      alst = ap (λ (w : ℕ). bit (8 * number m + 2) w) e ∙ s .alst;
+      terr = ap (λ (w : ℕ). bit (8 * number m + 3) w) e ∙ s .terr;
+      abrq = ap (λ (w : ℕ). bit (8 * number m + 7) w) e ∙ s .abrq;
+      tme = ap (λ (w : ℕ). bit (26 + number m) w) e ∙ s .tme;
+      low = ap (λ (w : ℕ). bit (29 + number m) w) e ∙ s .low;
+      reserved = (ap (λ (w : ℕ). bit (8 * number m + 4) w) e ∙ s .bit4, ap (λ (w : ℕ). bit (8 * number m + 5) w) e ∙ s .bit5, ap (λ (w : ℕ). bit (8 * number m + 6) w) e ∙ s .bit6);
+    }
+
+pub code-shown : (z : Controller) → read.code z ≡ code (txfp (z .core .control)) (z .core .transmit)
+code-shown z = ap (λ (w : ℕ). bits 24 2 w) (tsr-shown z) ∙ code-bits (txfp (z .core .control)) (z .core .transmit)

@@ -12,7 +12,8 @@ use Rattle.model.specs.Registers.{registerAt, reset, coreReset, written,
 use Rattle.model.specs.Step.{step, answered, coreAfter, refusal, applied, settled, storedBy, startedBy, endedBy}
 use Rattle.model.specs.Requests.{after}
 use Rattle.model.specs.Reachable.{InRange, StepRange, StepsRange}
-use Rattle.model.specs.History.{ticks, timerNext, timerFrom}
+use Rattle.model.specs.History.{timerNext, timerFrom}
+use Rattle.model.specs.Shown.{bitTimes}
 use Rattle.model.specs.declared.Sender.{Sender}
 use Rattle.model.specs.declared.Sender.the-variants.{Nobody, From}
 use Rattle.model.specs.declared.Fifo.the-variants.{F0, F1}
@@ -25,7 +26,9 @@ use Rattle.model.specs.declared.Step as steps
 use Rattle.model.specs.declared.Step.the-variants.{Reset, Read, Write, Idle, BitTimes, Activity, Start, Outcome, Receive, ReceiveError}
 use Rattle.model.proofs.Choices.{Is, Not}
 use Rattle.model.proofs.BusErrors.{and-true}
-use Rattle.model.proofs.HistoryReads.{code-is, mcr-read, normal-read}
+use Rattle.model.proofs.HistoryReads.{code-is}
+use Rattle.model.proofs.ShownWords.{mcr-shown}
+use Rattle.model.proofs.ReadFields.{normal-read}
 use Rattle.model.proofs.Reached.{step-in-range}
 
 -- TTCM comes through the mask of MCR
@@ -84,7 +87,7 @@ end-timer Nobody c b r = refl
 end-timer (From m) c b r = refl
 
 applied-timer : (c : Core) (b : List ℕ) (s : steps.Step) → c .control .timer < 65536 → Is (ttcm (applied c b s .control))
-    → applied c b s .control .timer ≡ pick (isNormal (c .control .mode)) ((c .control .timer + ticks s) % 65536) (c .control .timer)
+    → applied c b s .control .timer ≡ pick (isNormal (c .control .mode)) ((c .control .timer + bitTimes s) % 65536) (c .control .timer)
 unfolding applied reset controlReset idled entered counted ticked woken errorsChanged storedBy
 applied-timer c b Reset l h = absurd (false≢true h)
 applied-timer c b (Read o) l h = still (isNormal (c .control .mode)) (c .control .timer) l
@@ -120,7 +123,7 @@ by-code false true c d x e z h = rw e
 
 known-timer : (z : Controller) (s : steps.Step) → InRange z → StepRange s
     → step z s .controller .core .control .timer
-    ≡ pick (ttcm (step z s .controller .core .control)) (pick (eqb (refusal (z .core) s) 0 && isNormal (z .core .control .mode)) ((z .core .control .timer + ticks s) % 65536) (z .core .control .timer)) 0
+    ≡ pick (ttcm (step z s .controller .core .control)) (pick (eqb (refusal (z .core) s) 0 && isNormal (z .core .control .mode)) ((z .core .control .timer + bitTimes s) % 65536) (z .core .control .timer)) 0
 unfolding step answered coreAfter
 known-timer z s i r =
     by-code (eqb (refusal (z .core) s) 0) (ttcm (step z s .controller .core .control)) (z .core) (applied (z .core) (z .banks) s) _ refl
@@ -128,7 +131,7 @@ known-timer z s i r =
     (λ h. applied-timer (z .core) (z .banks) s (i .core .control .timer) h)
 
 pub step-timer : (z : Controller) (s : steps.Step) → InRange z → StepRange s → step z s .controller .core .control .timer ≡ timerNext (z .core .control .timer) z s
-step-timer z s i r = rw (code-is z s, normal-read z, mcr-read (step z s .controller)) (known-timer z s i r)
+step-timer z s i r = rw (code-is z s, normal-read z, mcr-shown (step z s .controller)) (known-timer z s i r)
 
 pub run-timer : (l : List steps.Step) (z : Controller) → InRange z → StepsRange l → after z l .core .control .timer ≡ timerFrom (z .core .control .timer) z l
 unfolding after timerFrom

@@ -1,13 +1,13 @@
 -- The requests of a controller: what an event does to them, that the observer's requests are theirs, and that a request
 -- draws nearer to the wire.
-use mathlib.Core.Bool.{Bool, true, false, not, _&&_, _||_, true≢false, false≢true, and-true, and-false}
+use mathlib.Core.Bool.{Bool, true, false, not, _&&_, _||_, false≢true, and-true, and-false}
 use mathlib.Core.Path.{_≡_, refl, sym, subst, ap, _∙_}
-use Prim.Native.Nat.{ℕ, suc, _≤_, _+_}
+use Prim.Native.Nat.{_≤_, _+_}
 use native.Mathlib.Omega.{arith}
-use lib.Dec.{leb, eqb}
+use lib.Dec.{leb}
 use Rattle.model.specs.Base.{pick, one}
 use Rattle.model.specs.Queue.{same, flag, flagged, holds, joined, without, oldest, isFrom, isNobody, noRequests, requested, emptied, remembered, aborted, abortedAll, sending, freed, offWire}
-use Rattle.model.specs.Requests.{Event, nothing, drops, modes, accepts, aborts, starts, ends, Requests, noneYet, next, closed, marked, abortSeen, wireFreed, endsToo, endSeen}
+use Rattle.model.specs.Requests.{Event, nothing, drops, modes, accepts, aborts, starts, ends, Requests, next, closed, marked, abortSeen, endSeen}
 use Rattle.model.specs.Reachable.{distinct, carried}
 use Rattle.model.specs.Fairness.{inOrder, otherEnd, otherOn, isGood}
 use Rattle.model.specs.declared.Mailbox.{Mailbox}
@@ -15,11 +15,9 @@ use Rattle.model.specs.declared.Mailbox.the-variants.{M0, M1, M2}
 use Rattle.model.specs.declared.Sender.{Sender}
 use Rattle.model.specs.declared.Sender.the-variants.{Nobody, From}
 use Rattle.model.specs.declared.RequestOrder.{RequestOrder}
-use Rattle.model.specs.declared.RequestOrder.the-variants.{Empty, One, Two, Three}
-use Rattle.model.specs.declared.MailboxBits.{MailboxBits}
 use Rattle.model.specs.declared.Queue.{Queue}
-use Rattle.model.proofs.Orders.{ahead, outOf, flag-out, out-without, distinct-without, gone-without, out-joined, distinct-joined, still, nearer, one-nearer, kept-without, gone-stays, kept-joined, ahead-joined, oldest-first, oldest-held, same-eq, same-comm}
-use Rattle.model.proofs.Choices.{Is, Not, not-Is, Is-not, pick-cases, pick-both, one-le}
+use Rattle.model.proofs.Orders.{ahead, outOf, flag-out, out-without, distinct-without, gone-without, out-joined, distinct-joined, still, nearer, one-nearer, kept-without, gone-stays, kept-joined, ahead-joined, oldest-first, same-eq, same-comm}
+use Rattle.model.proofs.Choices.{Is, Not, not-Is, pick-cases, pick-both, one-le}
 
 -- what of a controller decides about its requests
 pub record View : Type 0 where

@@ -13,9 +13,9 @@ use Rattle.model.specs.Control.{rflm, lbkm, controlReset}
 use Rattle.model.specs.Registers.{registerAt, bankCount, reset, coreReset, written, fifoOf, withErrors}
 use Rattle.model.specs.Step.{step, answered, coreAfter, refusal, applied, settled, storedBy, startedBy, endedBy, loopedBack}
 use Rattle.model.specs.Requests.{next, event, entry, after}
-use Rattle.model.specs.Codes.{fifoNumber, shown}
 use Rattle.model.specs.Reachable.{InRange, StepsRange}
 use Rattle.model.specs.History.{Traffic, none, empties, releases, arrives, arrival, writeTraffic, endTraffic, stepTraffic, traffic, filtered, waitingNext, waitingFrom, frames}
+use Rattle.model.specs.Shown.{shown, fifoNumber}
 use Rattle.model.specs.declared.Mailbox.{Mailbox}
 use Rattle.model.specs.declared.MailboxState.{MailboxState}
 use Rattle.model.specs.declared.Sender.{Sender}
@@ -38,7 +38,10 @@ use Rattle.model.proofs.Mapped.{map}
 use Rattle.model.proofs.Views.{requestsOf, requests-follow}
 use Rattle.model.proofs.Follows.{viewOf, follows}
 use Rattle.model.proofs.Arrivals.{Holds, no-frame, holds-received, holds-written}
-use Rattle.model.proofs.HistoryReads.{not-here, mcr-read, btr-read, finit-read, mailbox-read, frame-read, filtered-read}
+use Rattle.model.proofs.HistoryReads.{frame-read, filtered-read}
+use Rattle.model.proofs.RegisterAccess.{elsewhere}
+use Rattle.model.proofs.ShownWords.{mcr-shown, btr-shown, tdt-shown}
+use Rattle.model.proofs.ReadFields.{finit-read}
 use Rattle.model.proofs.Reached.{reset-in-range, step-in-range}
 use Rattle.model.proofs.Timing.{step-timer}
 
@@ -115,7 +118,7 @@ write-keeps true e F0 o c w p q = λ l h. rw (eqb-true o 0x000 p, map .found Mcr
 write-keeps true e F1 o c w p q = λ l h. rw (eqb-true o 0x000 p, map .found Mcr tt) (mcr-write (bit 15 w) F1 c _ refl l h)
 write-keeps false true F0 o c w p q = λ l h. rw (eqb-true o 0x00C q, map .found (Rfr F0) tt) (rfr-write F0 c w l h)
 write-keeps false true F1 o c w p q = λ l h. rw (eqb-true o 0x010 q, map .found (Rfr F1) tt) (rfr-write F1 c w l h)
-write-keeps false false f o c w p q = λ l h. rw (p, q, other-writes f (registerAt o) c w (not-here o Mcr refl p) (not-here o (Rfr f) refl q)) h
+write-keeps false false f o c w p q = λ l h. rw (p, q, other-writes f (registerAt o) c w (λ e. elsewhere o Mcr e refl p) (λ e. elsewhere o (Rfr f) e refl q)) h
 
 -- ---- arrivals
 
@@ -143,7 +146,7 @@ looped false f a x time locked = refl
 
 module _ (z : Controller) (i : InRange z) where
   rflm-read : bit 3 (shown z 0x000) ≡ rflm (z .core .control)
-  rflm-read = ap (λ (w : ℕ). bit 3 w) (mcr-read z)
+  rflm-read = ap (λ (w : ℕ). bit 3 w) (mcr-shown z)
 
   receive-known : (f : Fifo) (x : Frame)
       → arrival f (filtered z (x .identifier)) x (z .core .control .timer) (bit 3 (shown z 0x000))
@@ -157,8 +160,8 @@ module _ (z : Controller) (i : InRange z) where
     sent-known : (f : Fifo) (r : ℕ) → endTraffic f (From m) z r ≡ arrival f (loopedBack (z .core) (z .banks) m r) (sentFrame x) (x .tdt / 65536) (rflm (z .core .control))
     unfolding loopedBack
     sent-known f r =
-        (λ j. pick (eqb r 0 && bit 30 (btr-read z j) && not (finit-read z j))
-        (arrival f (filtered-read z (frame-read z m i j .identifier) i j) (frame-read z m i j) (mailbox-read z m .tdt j / 65536) (rflm-read j))
+        (λ j. pick (eqb r 0 && bit 30 (btr-shown z j) && not (finit-read z j))
+        (arrival f (filtered-read z (frame-read z m i j .identifier) i j) (frame-read z m i j) (tdt-shown m z j / 65536) (rflm-read j))
         none)
         ∙ looped (eqb r 0 && lbkm (z .core .control) && not (z .core .filters .finit)) f _ (sentFrame x) (x .tdt / 65536) (rflm (z .core .control))
 

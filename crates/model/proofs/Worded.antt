@@ -10,13 +10,15 @@ use Rattle.model.specs.Mailboxes.{firstOf}
 use Rattle.model.specs.Control.{txfp}
 use Rattle.model.specs.Step.{step, answered, wordOf, refusal}
 use Rattle.model.specs.Requests.{starts, event, entry}
-use Rattle.model.specs.Codes.{offsetOf, shown, txm, tme, isReadOrStart, Words}
+use Rattle.model.specs.Codes.{offsetOf, isReadOrStart, StepWords}
+use Rattle.model.specs.Shown.{shown, txm, tme}
 use Rattle.model.specs.declared.Mailbox.{Mailbox}
 use Rattle.model.specs.declared.Controller.{Controller}
 use Rattle.model.specs.declared.Register.the-variants.{Tsr}
 use Rattle.model.specs.declared.Step as steps
 use Rattle.model.specs.declared.Step.the-variants.{Reset, Read, Write, Idle, BitTimes, Activity, Start, Outcome, Receive, ReceiveError}
-use Rattle.model.proofs.ReadFields.{sender-small, txm-read, tme-read}
+use Rattle.model.proofs.ReadFields.{txm-read, tme-read}
+use Rattle.model.proofs.StatusWord.{sender-small}
 use Rattle.model.proofs.Choices.{pick-cases}
 use Rattle.model.proofs.Views.{View, viewNext, Granted}
 use Rattle.model.proofs.Follows.{viewOf, follows}
@@ -56,7 +58,7 @@ module _ (z : Controller) where
   start-event : step z Start .code ≡ 0 → event (entry Start (step z Start)) ≡ starts taken
   start-event h = rw h
 
-  start-held : step z Start .code ≡ 0 → tme z taken ≡ false
+  start-held : step z Start .code ≡ 0 → tme taken z ≡ false
   start-held h = tme-read z taken ∙ ap not (subst (Granted (viewOf (z .core))) (start-event h) (follows z Start .granted) .held)
 
   start-on : step z Start .code ≡ 0 → txm (step z Start .controller) ≡ true
@@ -65,8 +67,8 @@ module _ (z : Controller) where
       txm-read (step z Start .controller) ∙ ap (λ (d : View). not (isNobody (d .queue .transmitting))) e
 
 -- the word is 0 but for a read and a start, and that of a start is the number of a mailbox that isn't empty
-pub words : (z : Controller) → Words z
-words z = record {
+pub step-words : (z : Controller) → StepWords z
+step-words z = record {
   none = word-none z;
   mailbox = start-small z;
   pending = λ h. ap (λ (n : ℕ). bit (26 + n) (shown z (offsetOf Tsr))) (sym (number-numbered (step z Start .word) (start-small z))) ∙ start-held z h;

@@ -8,12 +8,12 @@ use lib.Dec.{eqb}
 use borrow.Author.Tests.{eqb-true, eq-eqb}
 use Rattle.model.specs.Base.{bit, bits, one}
 use Rattle.model.specs.Queue.{number, holds}
-use Rattle.model.specs.Mailboxes.{at, put, withWords, tiWritten, tdtWritten, tdlWritten, tdhWritten, tdtMasked, requestedBy, cleared, completed, tsrWritten, started, outcomeFlags, ended, tsr, tiWord}
-use Rattle.model.specs.Control.{txfp}
-use Rattle.model.specs.Registers.{registerAt, isAbsent, coreReset, written, readWord}
+use Rattle.model.specs.Mailboxes.{at, put, withWords, tiWritten, tdtWritten, tdlWritten, tdhWritten, tdtMasked, requestedBy, cleared, completed, tsrWritten, started, outcomeFlags, ended}
+use Rattle.model.specs.Registers.{registerAt, isAbsent, coreReset, written}
 use Rattle.model.specs.Step.{step, answered, coreAfter, refusal, applied, settled, storedBy, startedBy, endedBy}
+use Rattle.model.specs.Shown.{ti, tme}
 use Rattle.model.specs.Codes.{offsetOf}
-use Rattle.model.specs.ReadBack.{reads, Accepts, afterWrite, Within, sets}
+use Rattle.model.specs.ReadBack.{Accepts, afterWrite, Within, sets}
 use Rattle.model.specs.MailboxWords.{MailboxWords, starts, MailboxStays}
 use Rattle.model.specs.declared.Mailbox.{Mailbox}
 use Rattle.model.specs.declared.Mailbox.the-variants.{M0, M1, M2}
@@ -28,10 +28,11 @@ use Rattle.model.specs.declared.Register.{Register}
 use Rattle.model.specs.declared.Register.the-variants.{Mcr, Msr, Tsr, Rfr, Ier, Esr, Btr, Ti, Tdt, Tdl, Tdh, Ri, Rdt, Rdl, Rdh, Fmr, Fm1r, Fs1r, Ffa1r, Fa1r, R1, R2, Absent}
 use Rattle.model.specs.declared.Step as steps
 use Rattle.model.specs.declared.Step.the-variants.{Reset, Read, Write, Idle, BitTimes, Activity, Start, Outcome, Receive, ReceiveError}
-use Rattle.model.proofs.Choices.{pick-cases, and-l, and-r, opposed, one-le, one-bit}
+use Rattle.model.proofs.Choices.{not-not, pick-cases, and-l, and-r, opposed, one-le, one-bit}
 use Rattle.model.proofs.MaskedBits.{tdt-bits, next-bit}
-use Rattle.model.proofs.RegisterAccess.{read-word, write-core, elsewhere, step-keeps, Starts, start-accepted}
-use Rattle.model.proofs.StatusWord.{bits-of}
+use Rattle.model.proofs.RegisterAccess.{write-core, elsewhere, step-keeps, Starts, start-accepted}
+use Rattle.model.proofs.StatusWord.{flags-shown}
+use Rattle.model.proofs.ShownWords.{ti-shown, tdt-shown, tdl-shown, tdh-shown}
 
 -- ---- one of three
 
@@ -54,26 +55,6 @@ put-field f b M2 y M2 h = h refl
 
 -- ---- reads
 
-ti-read : (z : Controller) (m : Mailbox) → reads z (Ti m) ≡ at (z .core .transmit .mailboxes) m .ti / 2 * 2 + one (holds (z .core .transmit .queue .order) m)
-unfolding readWord tiWord
-ti-read z m = read-word (Ti m) z tt refl
-
-tdt-read : (z : Controller) (m : Mailbox) → reads z (Tdt m) ≡ at (z .core .transmit .mailboxes) m .tdt
-unfolding readWord
-tdt-read z m = read-word (Tdt m) z tt refl
-
-tdl-read : (z : Controller) (m : Mailbox) → reads z (Tdl m) ≡ at (z .core .transmit .mailboxes) m .tdl
-unfolding readWord
-tdl-read z m = read-word (Tdl m) z tt refl
-
-tdh-read : (z : Controller) (m : Mailbox) → reads z (Tdh m) ≡ at (z .core .transmit .mailboxes) m .tdh
-unfolding readWord
-tdh-read z m = read-word (Tdh m) z tt refl
-
-pub tsr-read : (z : Controller) → reads z Tsr ≡ tsr (txfp (z .core .control)) (z .core .transmit)
-unfolding readWord
-tsr-read z = read-word Tsr z tt refl
-
 -- bits of a TI word from bit 1 on, and bit 0
 upper-bit : (x i : ℕ) (b : Bool) → bit (1 + i) (x / 2 * 2 + one b) ≡ bit (1 + i) x
 upper-bit x i b =
@@ -88,16 +69,12 @@ upper-bit x i b =
 lower-bit : (x : ℕ) (b : Bool) → bit 0 (x / 2 * 2 + one b) ≡ b
 lower-bit x b = one-bit ((x / 2 * 2 + one b) / 2 ^ 0 % 2) b (omega (arith, one-le b))
 
-not-not : (b : Bool) → b ≡ not (not b)
-not-not true = refl
-not-not false = refl
-
-txrq-read : (z : Controller) (m : Mailbox) → bit 0 (reads z (Ti m)) ≡ not (bit (26 + number m) (reads z Tsr))
+txrq-read : (z : Controller) (m : Mailbox) → bit 0 (ti m z) ≡ not (tme m z)
 txrq-read z m =
-    ap (λ (w : ℕ). bit 0 w) (ti-read z m)
+    ap (λ (w : ℕ). bit 0 w) (ti-shown m z)
     ∙ lower-bit (at (z .core .transmit .mailboxes) m .ti) (holds (z .core .transmit .queue .order) m)
-    ∙ not-not (holds (z .core .transmit .queue .order) m)
-    ∙ ap not (sym (ap (λ (w : ℕ). bit (26 + number m) w) (tsr-read z) ∙ bits-of (txfp (z .core .control)) (z .core .transmit) m .tme))
+    ∙ sym (not-not (holds (z .core .transmit .queue .order) m))
+    ∙ ap not (sym (flags-shown z m .tme))
 
 -- ---- read back
 
@@ -128,13 +105,13 @@ even-bit w i = let e : w / 2 * 2 ≡ w / 2 * 2 + one false = omega arith in ap (
 pub mailbox-words : (z : Controller) (m : Mailbox) (w : ℕ) → MailboxWords z m w
 mailbox-words z m w = record {
   ti = λ h i.
-      ap (λ (x : ℕ). bit (1 + i) x) (ti-read (afterWrite z (Ti m) w) m)
+      ap (λ (x : ℕ). bit (1 + i) x) (ti-shown m (afterWrite z (Ti m) w))
       ∙ upper-bit (at (afterWrite z (Ti m) w .core .transmit .mailboxes) m .ti) i (holds (afterWrite z (Ti m) w .core .transmit .queue .order) m)
       ∙ ap (λ (x : ℕ). bit (1 + i) x) (ti-written z m w h)
       ∙ even-bit w i;
-  tdt = λ h. subst (λ (x : ℕ). Within 0xFFFF010F w x) (sym (tdt-read (afterWrite z (Tdt m) w) m ∙ tdt-written z m w h)) (tdt-bits w);
-  tdl = λ h. tdl-read (afterWrite z (Tdl m) w) m ∙ tdl-written z m w h;
-  tdh = λ h. tdh-read (afterWrite z (Tdh m) w) m ∙ tdh-written z m w h;
+  tdt = λ h. subst (λ (x : ℕ). Within 0xFFFF010F w x) (sym (tdt-shown m (afterWrite z (Tdt m) w) ∙ tdt-written z m w h)) (tdt-bits w);
+  tdl = λ h. tdl-shown m (afterWrite z (Tdl m) w) ∙ tdl-written z m w h;
+  tdh = λ h. tdh-shown m (afterWrite z (Tdh m) w) ∙ tdh-written z m w h;
 }
 
 -- ---- what else changes them
@@ -373,15 +350,15 @@ mailbox-stays z s m =
     record {
       txrq = txrq-read z m;
       ti = λ h i.
-          ap (λ (w : ℕ). bit (1 + i) w) (ti-read y m)
+          ap (λ (w : ℕ). bit (1 + i) w) (ti-shown m y)
           ∙ upper-bit (box (y .core) m .ti) i (holds (y .core .transmit .queue .order) m)
           ∙ ap (λ (w : ℕ). bit (1 + i) w) (stays (λ x. x .ti) z s m (λ _. u .ti h))
-          ∙ sym (ap (λ (w : ℕ). bit (1 + i) w) (ti-read z m) ∙ upper-bit (box (z .core) m .ti) i (holds (z .core .transmit .queue .order) m));
-      tdt = λ h. ap (λ (w : ℕ). bits 0 16 w) (tdt-read y m) ∙ low-half (box (y .core) m .tdt) (box (z .core) m .tdt) (stays (λ x. x .tdt % 65536) z s m (λ _. u .low h)) ∙ ap (λ (w : ℕ). bits 0 16 w) (sym (tdt-read z m));
-      tdl = λ h. tdl-read y m ∙ stays (λ x. x .tdl) z s m (λ _. u .tdl h) ∙ sym (tdl-read z m);
-      tdh = λ h. tdh-read y m ∙ stays (λ x. x .tdh) z s m (λ _. u .tdh h) ∙ sym (tdh-read z m);
-      time = λ h i. ap (λ (w : ℕ). bits 16 16 w) (tdt-read y m) ∙ time-taken s z m h (i .core .control .timer);
-      notStarted = λ h n. tdt-read y m ∙ if-accepted (λ (c : Core). box c m .tdt) z s (left-alone s z m h n) ∙ sym (tdt-read z m);
+          ∙ sym (ap (λ (w : ℕ). bit (1 + i) w) (ti-shown m z) ∙ upper-bit (box (z .core) m .ti) i (holds (z .core .transmit .queue .order) m));
+      tdt = λ h. ap (λ (w : ℕ). bits 0 16 w) (tdt-shown m y) ∙ low-half (box (y .core) m .tdt) (box (z .core) m .tdt) (stays (λ x. x .tdt % 65536) z s m (λ _. u .low h)) ∙ ap (λ (w : ℕ). bits 0 16 w) (sym (tdt-shown m z));
+      tdl = λ h. tdl-shown m y ∙ stays (λ x. x .tdl) z s m (λ _. u .tdl h) ∙ sym (tdl-shown m z);
+      tdh = λ h. tdh-shown m y ∙ stays (λ x. x .tdh) z s m (λ _. u .tdh h) ∙ sym (tdh-shown m z);
+      time = λ h i. ap (λ (w : ℕ). bits 16 16 w) (tdt-shown m y) ∙ time-taken s z m h (i .core .control .timer);
+      notStarted = λ h n. tdt-shown m y ∙ if-accepted (λ (c : Core). box c m .tdt) z s (left-alone s z m h n) ∙ sym (tdt-shown m z);
     }
   where
     low-half : (a b : ℕ) → a % 65536 ≡ b % 65536 → a / 2 ^ 0 % 2 ^ 16 ≡ b / 2 ^ 0 % 2 ^ 16

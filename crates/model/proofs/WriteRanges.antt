@@ -7,14 +7,12 @@ use lib.Dec.{ltb, eqb}
 use lib.ListN.{length, set, length-set}
 use Rattle.model.specs.Base.{bit}
 use Rattle.model.specs.Mailboxes.{requestedBy, tsrWritten, abrq}
-use Rattle.model.specs.Control.{isInitialization, isNormal, masterReset, mcrWritten, msrWritten, ierWritten, btrWritten, esrWritten}
+use Rattle.model.specs.Control.{isInitialization, masterReset, mcrWritten, msrWritten, ierWritten, btrWritten, esrWritten}
 use Rattle.model.specs.Reception.{rfrWritten}
 use Rattle.model.specs.Registers.{fifoOf, hasRequest, isFree, coreReset, written, banksWritten, withBankWord, bankCount, writeRefusal}
 use Rattle.model.specs.Reachable.{Words, CoreRange}
 use Rattle.model.specs.declared.Mailbox.{Mailbox}
 use Rattle.model.specs.declared.Queue.{Queue}
-use Rattle.model.specs.declared.Mode.{Mode}
-use Rattle.model.specs.declared.Mode.the-variants.{Sleep, Initialization, Normal}
 use Rattle.model.specs.declared.Core.{Core}
 use Rattle.model.specs.declared.Register.{Register}
 use Rattle.model.specs.declared.Register.the-variants.{Mcr, Msr, Tsr, Rfr, Ier, Esr, Btr, Ti, Tdt, Tdl, Tdh, Ri, Rdt, Rdl, Rdh, Fmr, Fm1r, Fs1r, Ffa1r, Fa1r, R1, R2, Absent}

@@ -11,7 +11,8 @@ use Rattle.model.specs.Mailboxes.{requestedBy, tsrWritten}
 use Rattle.model.specs.Reception.{emptyFifo, rfrWritten}
 use Rattle.model.specs.Control.{masterReset, mcrWritten, msrWritten, ierWritten, btrWritten, esrWritten}
 use Rattle.model.specs.Registers.{registerAt, controlRegister, isAbsent, written, coreReset, fifoOf, withControl}
-use Rattle.model.specs.Codes.{fifoNumber, offsetOf}
+use Rattle.model.specs.Codes.{offsetOf}
+use Rattle.model.specs.Shown.{fifoNumber}
 use Rattle.model.specs.declared.Mailbox.{Mailbox}
 use Rattle.model.specs.declared.Sender.{Sender}
 use Rattle.model.specs.declared.Sender.the-variants.{Nobody}

@@ -2,7 +2,7 @@
 -- begins anywhere. Document 01: "Register map" (hardware reset), "Bench script", "How far each contract reaches".
 use mathlib.Core.List.{List, [], _∷_, _++_}
 use mathlib.Core.Path.{_≡_}
-use Prim.Native.Nat.{ℕ, _-_, _^_, _<_, _≤_}
+use Prim.Native.Nat.{ℕ, _-_, _≤_}
 use Rattle.model.specs.Control.{nart, txfp}
 use Rattle.model.specs.Registers.{reset, hasRequest}
 use Rattle.model.specs.Step.{step}
@@ -11,44 +11,28 @@ use Rattle.model.specs.Fairness.{Fairness, requestsFrom}
 use Rattle.model.specs.Reachable.{InRange, StepsRange}
 use Rattle.model.specs.History.{Tied}
 use Rattle.model.specs.Script.{replay, stepsOf}
-use Rattle.model.specs.Records.{Bytes}
+use Rattle.model.specs.Records.{Bytes, AllFit}
 use Rattle.model.specs.Scripts.{answeredSteps}
 use Rattle.model.specs.declared.Mailbox.the-variants.{M0, M1, M2}
 use Rattle.model.specs.declared.Controller.{Controller}
 use Rattle.model.specs.declared.Step as steps
-use Rattle.model.specs.declared.Step.the-variants.{Reset, Read, Write, Idle, BitTimes, Activity, Start, Outcome, Receive, ReceiveError}
+use Rattle.model.specs.declared.Step.the-variants.{Reset}
 
 -- ---- callers
 
--- the numbers of a step are in the types that `Step` and `Frame` give them, as every caller's are
-abbrev pub InTypes : steps.Step → Type 0
-InTypes Reset = Unit {0}
-InTypes (Read o) = o < 2 ^ 16
-InTypes (Write o w) = (o < 2 ^ 16) × (w < 2 ^ 32)
-InTypes Idle = Unit {0}
-InTypes (BitTimes n) = n < 2 ^ 16
-InTypes Activity = Unit {0}
-InTypes Start = Unit {0}
-InTypes (Outcome r) = r < 2 ^ 8
-InTypes (Receive x) = (x .identifier < 2 ^ 32) × (x .low < 2 ^ 32) × (x .high < 2 ^ 32) × (x .length < 2 ^ 8)
-InTypes (ReceiveError k n) = (k < 2 ^ 8) × (n < 2 ^ 8)
-
-abbrev pub AllInTypes : List steps.Step → Type 0
-AllInTypes [] = Unit {0}
-AllInTypes (s ∷ l) = InTypes s × AllInTypes l
-
--- a list of steps that callers give, from hardware reset
+-- a list of steps that callers give, from hardware reset: the widths of a record's numbers are those of the types `Step` and `Frame`, so
+-- `AllFit` holds of it
 pub record OfCallers (l : List steps.Step) : Type 0 where
-  pub range : AllInTypes l → StepsRange l
-  pub reachable : AllInTypes l → InRange (after reset l)
-  pub tied : AllInTypes l → Tied reset l
+  pub range : AllFit l → StepsRange l
+  pub reachable : AllFit l → InRange (after reset l)
+  pub tied : AllFit l → Tied reset l
   pub fair : Fairness reset noneYet l
 
 -- ---- scripts
 
 -- a script of bytes, from hardware reset, with any reply space: its steps are such as callers give
 pub record OfScripts (s : List ℕ) (space : ℕ) : Type 0 where
-  pub types : Bytes s → AllInTypes (stepsOf s)
+  pub fit : Bytes s → AllFit (stepsOf s)
   pub range : Bytes s → StepsRange (answeredSteps s space)
   pub reachable : Bytes s → InRange (replay reset s space .result .controller)
   pub tied : Bytes s → Tied reset (answeredSteps s space)

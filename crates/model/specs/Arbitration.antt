@@ -9,11 +9,11 @@ use Rattle.model.specs.Base.{pick, bit}
 use Rattle.model.specs.Queue.{number, orderNumbers, senderNumbers}
 use Rattle.model.specs.Mailboxes.{identifier, before, sentIdentifier}
 use Rattle.model.specs.Step.{step}
-use Rattle.model.specs.ReadBack.{reads, has}
+use Rattle.model.specs.Shown.{ti, txfp, nextOf}
+use Rattle.model.specs.ReadBack.{has}
 use Rattle.model.specs.declared.Mailbox.{Mailbox}
 use Rattle.model.specs.declared.Identifiers.{Identifiers}
 use Rattle.model.specs.declared.Controller.{Controller}
-use Rattle.model.specs.declared.Register.the-variants.{Mcr, Ti}
 use Rattle.model.specs.declared.Step.the-variants.{Start}
 
 -- ---- the bits on the wire
@@ -73,9 +73,9 @@ earlier (x ∷ l) a b = pick (eqb x a) (has l b) (earlier l a b)
 
 -- ---- priority
 
--- "Request order if TXFP=1. Otherwise the bits on the wire"; TXFP is bit 2 of MCR
+-- "Request order if TXFP=1. Otherwise the bits on the wire"
 abbrev pub precedes : Controller → Mailbox → Mailbox → Bool
-precedes z a b = pick (bit 2 (reads z Mcr)) (earlier (requests z) (number a) (number b)) (goesBefore a (reads z (Ti a)) b (reads z (Ti b)))
+precedes z a b = pick (txfp z) (earlier (requests z) (number a) (number b)) (goesBefore a (ti a z) b (ti b z))
 
 -- the first and the last in priority of the pending mailboxes
 pub record IsFirst (z : Controller) (m : Mailbox) : Type 0 where
@@ -94,5 +94,5 @@ pub record Some (P : Mailbox → Type 0) : Type 0 where
 -- an accepted start: "The first in priority goes on the wire .. the word is its number"; its request stays in its place
 pub record StartsFirst (z : Controller) : Type 0 where
   pub word : Some (λ m. (step z Start .word ≡ number m) × IsFirst z m)
-  pub wire : onWire (step z Start .controller) ≡ step z Start .word ∷ []
-  pub kept : requests (step z Start .controller) ≡ requests z
+  pub wire : onWire (nextOf z Start) ≡ step z Start .word ∷ []
+  pub kept : requests (nextOf z Start) ≡ requests z

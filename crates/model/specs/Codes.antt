@@ -8,11 +8,8 @@ use Rattle.model.specs.Base.{bit, bits}
 use Rattle.model.specs.Queue.{number}
 use Rattle.model.specs.Registers.{registerAt, isAbsent, bankCount}
 use Rattle.model.specs.Step.{step, linesOf}
-use Rattle.model.specs.declared.Mailbox.{Mailbox}
+use Rattle.model.specs.Shown.{fifoNumber, shown, tsr, inak, slak, inNormal, txm, tme, boff, lbkm, silm, finit, fact, Done, nextOf}
 use Rattle.model.specs.declared.Mailbox.the-variants.{M0, M1, M2}
-use Rattle.model.specs.declared.Fifo.{Fifo}
-use Rattle.model.specs.declared.Fifo.the-variants.{F0, F1}
-use Rattle.model.specs.declared.Bank.{Bank}
 use Rattle.model.specs.declared.Controller.{Controller}
 use Rattle.model.specs.declared.Register.{Register}
 use Rattle.model.specs.declared.Register.the-variants.{Mcr, Msr, Tsr, Rfr, Ier, Esr, Btr, Ti, Tdt, Tdl, Tdh, Ri, Rdt, Rdl, Rdh, Fmr, Fm1r, Fs1r, Ffa1r, Fa1r, R1, R2, Absent}
@@ -20,10 +17,6 @@ use Rattle.model.specs.declared.Step as steps
 use Rattle.model.specs.declared.Step.the-variants.{Reset, Read, Write, Idle, BitTimes, Activity, Start, Outcome, Receive, ReceiveError}
 
 -- ---- the map
-
-abbrev pub fifoNumber : Fifo → ℕ
-fifoNumber F0 = 0
-fifoNumber F1 = 1
 
 -- the offset of a register; of none, a number that is no offset
 abbrev pub offsetOf : Register → ℕ
@@ -50,6 +43,10 @@ offsetOf Fa1r = 0x21C
 offsetOf (R1 b) = 0x240 + 8 * (b .0)
 offsetOf (R2 b) = 0x244 + 8 * (b .0)
 offsetOf Absent = 0xFFFF
+
+-- the word that a read of the register gives
+abbrev pub reads : Controller → Register → ℕ
+reads z r = shown z (offsetOf r)
 
 -- the offsets in the map, on a board with n banks: multiples of 4 in these ranges
 abbrev pub inMap : ℕ → ℕ → Bool
@@ -91,45 +88,6 @@ pub record Map : Type 0 where
   pub absent : (o : ℕ) → isAbsent (registerAt o) ≡ not (inMap bankCount o)
   pub found : (r : Register) → IsPresent r → registerAt (offsetOf r) ≡ r
   pub only : (o : ℕ) → isAbsent (registerAt o) ≡ false → offsetOf (registerAt o) ≡ o
-
--- ---- the state as registers show it, the bits at the places of 000
-
--- the word that a read gives
-abbrev pub shown : Controller → ℕ → ℕ
-shown z o = step z (Read o) .word
-
--- MSR: INAK, SLAK, TXM
-abbrev pub inak : Controller → Bool
-inak z = bit 0 (shown z (offsetOf Msr))
-
-abbrev pub slak : Controller → Bool
-slak z = bit 1 (shown z (offsetOf Msr))
-
-abbrev pub txm : Controller → Bool
-txm z = bit 8 (shown z (offsetOf Msr))
-
--- TSR: TME of a mailbox
-abbrev pub tme : Controller → Mailbox → Bool
-tme z m = bit (26 + number m) (shown z (offsetOf Tsr))
-
--- ESR: BOFF
-abbrev pub boff : Controller → Bool
-boff z = bit 2 (shown z (offsetOf Esr))
-
--- BTR: LBKM, SILM
-abbrev pub lbkm : Controller → Bool
-lbkm z = bit 30 (shown z (offsetOf Btr))
-
-abbrev pub silm : Controller → Bool
-silm z = bit 31 (shown z (offsetOf Btr))
-
--- FMR: FINIT
-abbrev pub finit : Controller → Bool
-finit z = bit 0 (shown z (offsetOf Fmr))
-
--- FA1R: a bank is active
-abbrev pub isActive : Controller → Bank → Bool
-isActive z b = bit (b .0) (shown z (offsetOf Fa1r))
 
 -- ---- when each code is given
 
@@ -193,10 +151,10 @@ isLocked (Rfr f) z = false
 isLocked Ier z = false
 isLocked Esr z = false
 isLocked Btr z = not (inak z)
-isLocked (Ti m) z = not (tme z m)
-isLocked (Tdt m) z = not (tme z m)
-isLocked (Tdl m) z = not (tme z m)
-isLocked (Tdh m) z = not (tme z m)
+isLocked (Ti m) z = not (tme m z)
+isLocked (Tdt m) z = not (tme m z)
+isLocked (Tdl m) z = not (tme m z)
+isLocked (Tdh m) z = not (tme m z)
 isLocked (Ri f) z = false
 isLocked (Rdt f) z = false
 isLocked (Rdl f) z = false
@@ -206,8 +164,8 @@ isLocked Fm1r z = not (finit z)
 isLocked Fs1r z = not (finit z)
 isLocked Ffa1r z = not (finit z)
 isLocked Fa1r z = false
-isLocked (R1 b) z = not (finit z) && isActive z b
-isLocked (R2 b) z = not (finit z) && isActive z b
+isLocked (R1 b) z = not (finit z) && fact b z
+isLocked (R2 b) z = not (finit z) && fact b z
 isLocked Absent z = false
 
 -- 2: write to a locked register
@@ -239,11 +197,11 @@ outOfRange (ReceiveError k n) = not (leb 1 k && leb k 6 && (eqb n 1 || eqb n 8))
 
 -- Normal, not bus-off, none on the wire
 abbrev pub isReady : Controller → Bool
-isReady z = not (inak z) && not (slak z) && not (boff z) && not (txm z)
+isReady z = inNormal z && not (boff z) && not (txm z)
 
 -- at least one mailbox isn't empty
 abbrev pub anyPending : Controller → Bool
-anyPending z = not (tme z M0) || not (tme z M1) || not (tme z M2)
+anyPending z = not (tme M0 z) || not (tme M1 z) || not (tme M2 z)
 
 -- a start: one pending besides, and not SILM=1 with LBKM=0
 abbrev pub canStart : Controller → Bool
@@ -299,8 +257,8 @@ isReadOrStart (ReceiveError k n) = false
 
 -- the word is 0 but for a read and a start; that of a start is the number of a mailbox that isn't empty, which TSR shows by
 -- TME=0, and its frame is then on the wire, which MSR shows by TXM=1
-pub record Words (z : Controller) : Type 0 where
+pub record StepWords (z : Controller) : Type 0 where
   pub none : (s : steps.Step) → isReadOrStart s ≡ false → step z s .word ≡ 0
   pub mailbox : step z Start .word ≤ 2
-  pub pending : step z Start .code ≡ 0 → bit (26 + step z Start .word) (shown z (offsetOf Tsr)) ≡ false
-  pub onWire : step z Start .code ≡ 0 → txm (step z Start .controller) ≡ true
+  pub pending : Done z Start → bit (26 + step z Start .word) (tsr z) ≡ false
+  pub onWire : Done z Start → txm (nextOf z Start) ≡ true

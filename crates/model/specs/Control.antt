@@ -1,7 +1,7 @@
 -- Modes, error counters, the timer, and the registers MCR, MSR, IER, BTR, ESR.
 -- Document 01: "Register map", "Modes", "Bus events".
 use mathlib.Core.Bool.{Bool, true, false, not, _&&_, _||_}
-use Prim.Native.Nat.{ℕ, _+_, _*_, _-_, _/_, _%_, _^_}
+use Prim.Native.Nat.{ℕ, _+_, _*_, _-_, _%_, _^_}
 use lib.Dec.{eqb, ltb, leb}
 use Rattle.model.specs.Base.{pick, bit, bits, one}
 use Rattle.model.specs.declared.Mode.{Mode}

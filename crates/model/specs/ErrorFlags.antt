@@ -1,35 +1,16 @@
 -- The error flags and ERRI, REC and LEC, of what registers show.
--- Document 01: "Bus events" (own end, frame, receive error, last paragraph), "Register map" (ESR). Bit places are those of 000.
+-- Document 01: "Bus events" (own end, frame, receive error, last paragraph), "Register map" (ESR).
 use mathlib.Core.Bool.{Bool, false, not, _&&_, _||_}
 use mathlib.Core.Path.{_≡_}
 use Prim.Native.Nat.{ℕ, _+_, _-_, _%_, min}
 use lib.Dec.{eqb, ltb, leb}
-use Rattle.model.specs.Base.{pick, bit, bits}
-use Rattle.model.specs.Shown.{msr, ier, esr, Done, nextOf, setsBit, resets}
+use Rattle.model.specs.Base.{pick, bits}
+use Rattle.model.specs.Shown.{esr, erri, ewgie, epvie, bofie, lecie, ewgf, epvf, boff, lec, rec, tec, Done, nextOf, writesOne, resets}
 use Rattle.model.specs.declared.Controller.{Controller}
 use Rattle.model.specs.declared.Step as steps
 use Rattle.model.specs.declared.Step.the-variants.{Reset, Read, Write, Idle, BitTimes, Activity, Start, Outcome, Receive, ReceiveError}
 
 -- ---- what ESR shows of a state
-
-abbrev pub ewgf : Controller → Bool
-ewgf z = bit 0 (esr z)
-
-abbrev pub epvf : Controller → Bool
-epvf z = bit 1 (esr z)
-
-abbrev pub boff : Controller → Bool
-boff z = bit 2 (esr z)
-
-abbrev pub lec : Controller → ℕ
-lec z = bits 4 3 (esr z)
-
-abbrev pub rec : Controller → ℕ
-rec z = bits 24 8 (esr z)
-
--- TEC has nine bits, and ESR shows the low eight
-abbrev pub tec : Controller → ℕ
-tec z = z .core .errors .tec
 
 pub record ErrorStatus (z : Controller) : Type 0 where
   pub tecField : bits 16 8 (esr z) ≡ tec z % 256
@@ -87,7 +68,7 @@ rises x y = not x && y
 
 -- a reset, or 1 written to ERRI
 abbrev pub clearsErri : steps.Step → Bool
-clearsErri s = resets s || setsBit 0x004 2 s
+clearsErri s = resets s || writesOne 0x004 2 s
 
 -- an accepted step s that leads from z to y
 pub record ErrorChange (z : Controller) (s : steps.Step) (y : Controller) : Type 0 where
@@ -97,13 +78,13 @@ pub record ErrorChange (z : Controller) (s : steps.Step) (y : Controller) : Type
   pub warned : rises (ewgf z) (ewgf y) ≡ ltb (tec z) 96 && ltb (rec z) 96 && (leb 96 (tec y) || leb 96 (rec y))
   -- ERRI is set when one of the flags rises with its enable set, or an event puts 1 to 6 in LEC with LECIE set, the same code
   -- again too; nothing clears it but a reset and 1 written to it
-  pub erri : bit 2 (msr y)
+  pub erri : erri y
       ≡ not (clearsErri s)
-      && (bit 2 (msr z)
-      || (bit 8 (ier z) && rises (ewgf z) (ewgf y))
-      || (bit 9 (ier z) && rises (epvf z) (epvf y))
-      || (bit 10 (ier z) && rises (boff z) (boff y))
-      || (bit 11 (ier z) && putsCode s))
+      && (erri z
+      || (ewgie z && rises (ewgf z) (ewgf y))
+      || (epvie z && rises (epvf z) (epvf y))
+      || (bofie z && rises (boff z) (boff y))
+      || (lecie z && putsCode s))
 
 pub record ErrorFlags (z : Controller) (s : steps.Step) : Type 0 where
   pub before : ErrorStatus z

@@ -1,23 +1,22 @@
 -- Worked examples. Document 01: "Numbers on the wall", the starred ones; then the reset values of "Register map", and
 -- two sentences of it that are easily got wrong.
-use mathlib.Core.Bool.{Bool, true, false}
+use mathlib.Core.Bool.{false}
 use mathlib.Core.List.{List, [], _∷_, _++_, map}
 use mathlib.Core.Path.{_≡_}
-use Prim.Native.Nat.{ℕ, zero, suc, _+_, _*_}
-use lib.ListN.{replicate, set}
-use Rattle.model.specs.Base.{bits}
+use Prim.Native.Nat.{ℕ, _+_, _*_}
+use lib.ListN.{replicate}
+use Rattle.model.specs.Base.{bits, one}
 use Rattle.model.specs.Banks.{bank, firstNumber}
 use Rattle.model.specs.Registers.{reset, bankCount}
 use Rattle.model.specs.Step.{step}
 use Rattle.model.specs.Requests.{after}
+use Rattle.model.specs.Shown.{shown, esr, boff, rec, timer}
 use Rattle.model.specs.declared.Fifo.the-variants.{F0}
 use Rattle.model.specs.declared.Filters.{Filters}
 use Rattle.model.specs.declared.Frame.{Frame}
-use Rattle.model.specs.declared.Control.{Control}
-use Rattle.model.specs.declared.Core.{Core}
 use Rattle.model.specs.declared.Controller.{Controller}
 use Rattle.model.specs.declared.Step as steps
-use Rattle.model.specs.declared.Step.the-variants.{Reset, Read, Write, Idle, BitTimes, Activity, Start, Outcome, Receive, ReceiveError}
+use Rattle.model.specs.declared.Step.the-variants.{Write, Idle, BitTimes, Start, Outcome, Receive}
 
 -- ---- states to begin with
 
@@ -48,21 +47,12 @@ withCounters t r z = record {
 
 -- ---- what is looked at
 
-abbrev pub reads : Controller → ℕ → ℕ
-reads z o = step z (Read o) .word
-
--- the fields TEC, REC and BOFF of ESR
+-- the field TEC of ESR, and BOFF as a number
 abbrev pub tecField : Controller → ℕ
-tecField z = bits 16 8 (reads z 0x018)
-
-abbrev pub recField : Controller → ℕ
-recField z = bits 24 8 (reads z 0x018)
+tecField z = bits 16 8 (esr z)
 
 abbrev pub boffField : Controller → ℕ
-boffField z = bits 2 1 (reads z 0x018)
-
-abbrev pub timerOf : Controller → ℕ
-timerOf z = z .core .control .timer
+boffField z = one (boff z)
 
 -- ---- frames
 
@@ -72,9 +62,9 @@ frame identifier low = record { identifier = identifier; low = low; high = 0; le
 -- the first data words of what FIFO 0 holds, read and released one after the other
 abbrev pub three : Controller → List ℕ
 three z =
-    reads z 0x1B8
-    ∷ reads (after z (Write 0x00C 0x20 ∷ [])) 0x1B8
-    ∷ reads (after z (Write 0x00C 0x20 ∷ Write 0x00C 0x20 ∷ [])) 0x1B8
+    shown z 0x1B8
+    ∷ shown (after z (Write 0x00C 0x20 ∷ [])) 0x1B8
+    ∷ shown (after z (Write 0x00C 0x20 ∷ Write 0x00C 0x20 ∷ [])) 0x1B8
     ∷ []
 
 -- four frames
@@ -102,7 +92,7 @@ abbrev pub listening16 : List steps.Step
 listening16 = Write 0x204 0x3FFF ∷ Write 0x2AC 0x00200000 ∷ Write 0x21C 0x3FFF ∷ Write 0x200 0 ∷ normal 0
 
 abbrev pub lastFilter : ℕ
-lastFilter = bits 8 8 (reads (after reset (listening16 ++ Receive (frame 0x00200000 0) ∷ [])) 0x1B4)
+lastFilter = bits 8 8 (shown (after reset (listening16 ++ Receive (frame 0x00200000 0) ∷ [])) 0x1B4)
 
 -- ---- the table
 
@@ -119,15 +109,15 @@ busOff = withCounters 256 0 (after reset (normal 0x40))
 
 abbrev pub table : List Example
 table =
-    -- TEC 247 and an error: 255, still on. 248: bus-off, the field reads 0
+    -- TEC 247 and an error: 255, still on. 248: bus-off, the field shown 0
     example (tecField (step (withCounters 247 0 (after reset transmitting)) (Outcome 1) .controller) ∷ boffField (step (withCounters 247 0 (after reset transmitting)) (Outcome 1) .controller) ∷ []) (255 ∷ 0 ∷ [])
     ∷ example (tecField (step (withCounters 248 0 (after reset transmitting)) (Outcome 1) .controller) ∷ boffField (step (withCounters 248 0 (after reset transmitting)) (Outcome 1) .controller) ∷ []) (0 ∷ 1 ∷ [])
     -- REC 129 becomes 120; 128, 127
-    ∷ example (recField (step (withCounters 0 129 (after reset (listening 0))) (Receive (frame 0 0)) .controller) ∷ []) (120 ∷ [])
-    ∷ example (recField (step (withCounters 0 128 (after reset (listening 0))) (Receive (frame 0 0)) .controller) ∷ []) (127 ∷ [])
+    ∷ example (rec (step (withCounters 0 129 (after reset (listening 0))) (Receive (frame 0 0)) .controller) ∷ []) (120 ∷ [])
+    ∷ example (rec (step (withCounters 0 128 (after reset (listening 0))) (Receive (frame 0 0)) .controller) ∷ []) (127 ∷ [])
     -- timer 65535 plus 1 is 0; plus 65535 is 65534
-    ∷ example (timerOf (after reset (normal 0x80 ++ BitTimes 65535 ∷ BitTimes 1 ∷ [])) ∷ []) (0 ∷ [])
-    ∷ example (timerOf (after reset (normal 0x80 ++ BitTimes 65535 ∷ BitTimes 65535 ∷ [])) ∷ []) (65534 ∷ [])
+    ∷ example (timer (after reset (normal 0x80 ++ BitTimes 65535 ∷ BitTimes 1 ∷ [])) ∷ []) (0 ∷ [])
+    ∷ example (timer (after reset (normal 0x80 ++ BitTimes 65535 ∷ BitTimes 65535 ∷ [])) ∷ []) (65534 ∷ [])
     -- standard 0x100 goes before extended 0x04000000; extended 0x00040000 before standard 0x002
     ∷ example (startsFirst (standard 0x100) (extended 0x04000000) ∷ startsFirst (extended 0x04000000) (standard 0x100) ∷ []) (0 ∷ 1 ∷ [])
     ∷ example (startsFirst (extended 0x00040000) (standard 0x002) ∷ startsFirst (standard 0x002) (extended 0x00040000) ∷ []) (0 ∷ 1 ∷ [])
@@ -143,14 +133,14 @@ table =
 -- the hardware reset values of MCR, MSR, TSR, RF0R, RF1R, IER, ESR, BTR, FMR
 abbrev pub resetValues : Example
 resetValues = example
-    (map (reads reset) (0x000 ∷ 0x004 ∷ 0x008 ∷ 0x00C ∷ 0x010 ∷ 0x014 ∷ 0x018 ∷ 0x01C ∷ 0x200 ∷ []))
+    (map (shown reset) (0x000 ∷ 0x004 ∷ 0x008 ∷ 0x00C ∷ 0x010 ∷ 0x014 ∷ 0x018 ∷ 0x01C ∷ 0x200 ∷ []))
     (0x00010002 ∷ 0x00000C02 ∷ 0x1C000000 ∷ 0 ∷ 0 ∷ 0 ∷ 0 ∷ 0x01230000 ∷ 0x2A1C0E01 ∷ [])
 
 -- three frames: FMP 3 and FULL; after a release FMP 2, and FULL still set
 abbrev pub releaseKeepsFull : Example
 releaseKeepsFull = example
-    (reads (after reset (listening 0 ++ Receive (frame 0 0) ∷ Receive (frame 0 0) ∷ Receive (frame 0 0) ∷ [])) 0x00C
-    ∷ reads (after reset (listening 0 ++ Receive (frame 0 0) ∷ Receive (frame 0 0) ∷ Receive (frame 0 0) ∷ Write 0x00C 0x20 ∷ [])) 0x00C ∷ [])
+    (shown (after reset (listening 0 ++ Receive (frame 0 0) ∷ Receive (frame 0 0) ∷ Receive (frame 0 0) ∷ [])) 0x00C
+    ∷ shown (after reset (listening 0 ++ Receive (frame 0 0) ∷ Receive (frame 0 0) ∷ Receive (frame 0 0) ∷ Write 0x00C 0x20 ∷ [])) 0x00C ∷ [])
     (0x0B ∷ 0x0A ∷ [])
 
 -- under request order a request that failed keeps its place before a younger one

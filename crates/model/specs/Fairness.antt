@@ -4,10 +4,11 @@ use mathlib.Core.Bool.{Bool, true, false, not, _&&_}
 use mathlib.Core.List.{List, [], _∷_, _++_}
 use mathlib.Core.Path.{_≡_}
 use Prim.Native.Nat.{ℕ, _+_, _≤_}
-use Rattle.model.specs.Base.{pick, bit, one}
-use Rattle.model.specs.Queue.{number, flag, same}
+use Rattle.model.specs.Base.{pick, one}
+use Rattle.model.specs.Queue.{flag, same}
 use Rattle.model.specs.Registers.{reset}
 use Rattle.model.specs.Step.{step}
+use Rattle.model.specs.Shown.{tme, Done}
 use Rattle.model.specs.Requests.{Entry, Event, nothing, drops, modes, accepts, aborts, starts, ends, event, entry, Requests, noneYet, next, requestsAfter, endsToo, after, entries}
 use Rattle.model.specs.declared.Mailbox.{Mailbox}
 use Rattle.model.specs.declared.Mailbox.the-variants.{M0}
@@ -115,8 +116,8 @@ pub record Served (m : Mailbox) (b : Requests) (rest : List Entry) : Type 0 wher
 -- and from any state in range, where it had those that the state holds
 pub record Fairness (z : Controller) (b : Requests) (l : List steps.Step) : Type 0 where
   -- a mailbox reads as empty, by TME of a TSR read, exactly when it has no outstanding request
-  pub read : step (after z l) (Read 8) .code ≡ 0
-  pub empty : (m : Mailbox) → bit (26 + number m) (step (after z l) (Read 8) .word) ≡ not (flag (requestsFrom z b l .outstanding) m)
+  pub read : Done (after z l) (Read 0x008)
+  pub empty : (m : Mailbox) → tme m (after z l) ≡ not (flag (requestsFrom z b l .outstanding) m)
   -- each request that is accepted anywhere in the list, by its step s
   pub served : (before : List steps.Step) (s : steps.Step) (rest : List steps.Step) (m : Mailbox)
       → l ≡ before ++ s ∷ rest

@@ -1,6 +1,6 @@
 -- The two FIFOs, of what registers show.
 -- Document 01: "Order, filters, storage" (storage), "Bus events" (own end, frame), "Register map" (RFxR, FIFO output, MCR with bit 15).
--- Bit places are those of 000. Which filter takes a frame is `acceptance`.
+-- Which filter takes a frame is `acceptance`.
 use mathlib.Core.Bool.{Bool, true, false, not, _&&_, _||_}
 use mathlib.Core.Path.{_≡_}
 use Prim.Native.Nat.{ℕ, _+_, _*_, _-_, _^_, _<_, min}
@@ -10,8 +10,7 @@ use Rattle.model.specs.Mailboxes.{at}
 use Rattle.model.specs.Search.{acceptance}
 use Rattle.model.specs.Reception.{sentFrame}
 use Rattle.model.specs.Registers.{bankCount, fifoOf}
-use Rattle.model.specs.Codes.{fifoNumber}
-use Rattle.model.specs.Shown.{rfr, btr, fmr, ri, rdt, rdl, rdh, ti, tdt, tdl, tdh, Done, nextOf, resets}
+use Rattle.model.specs.Shown.{rfr, ri, rdt, rdl, rdh, ti, tdt, tdl, tdh, fmp, full, fovr, lbkm, finit, timer, Done, nextOf, resets, fifoNumber}
 use Rattle.model.specs.declared.Mailbox.{Mailbox}
 use Rattle.model.specs.declared.Sender.the-variants.{From}
 use Rattle.model.specs.declared.Fifo.{Fifo}
@@ -22,17 +21,6 @@ use Rattle.model.specs.declared.Acceptance.the-variants.{Into, Rejected}
 use Rattle.model.specs.declared.Controller.{Controller}
 use Rattle.model.specs.declared.Step as steps
 use Rattle.model.specs.declared.Step.the-variants.{Reset, Read, Write, Idle, BitTimes, Activity, Start, Outcome, Receive, ReceiveError}
-
--- ---- RFxR
-
-abbrev pub fmp : Fifo → Controller → ℕ
-fmp f z = bits 0 2 (rfr f z)
-
-abbrev pub full : Fifo → Controller → Bool
-full f z = bit 3 (rfr f z)
-
-abbrev pub fovr : Fifo → Controller → Bool
-fovr f z = bit 4 (rfr f z)
 
 abbrev pub other : Fifo → Fifo
 other F0 = F1
@@ -112,7 +100,7 @@ pub record SentBy (m : Mailbox) (z : Controller) (x : Frame) : Type 0 where
 
 -- LBKM=1 and FINIT=0
 abbrev pub isLooped : Controller → Bool
-isLooped z = bit 30 (btr z) && not (bit 0 (fmr z))
+isLooped z = lbkm z && not (finit z)
 
 -- an own end: in loopback a good frame passes the filters too, with the mailbox's TIME
 pub record EndRule (z : Controller) (r : ℕ) (y : Controller) : Type 0 where
@@ -146,7 +134,7 @@ FifoRule z (BitTimes n) y = (f : Fifo) → Kept f z y
 FifoRule z Activity y = (f : Fifo) → Kept f z y
 FifoRule z Start y = (f : Fifo) → Kept f z y
 FifoRule z (Outcome r) y = EndRule z r y
-FifoRule z (Receive x) y = Passed (acceptance bankCount (z .core .filters) (z .banks) (x .identifier)) z y x (z .core .control .timer)
+FifoRule z (Receive x) y = Passed (acceptance bankCount (z .core .filters) (z .banks) (x .identifier)) z y x (timer z)
 FifoRule z (ReceiveError k n) y = (f : Fifo) → Kept f z y
 
 pub record Fifos (z : Controller) (s : steps.Step) : Type 0 where

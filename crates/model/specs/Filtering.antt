@@ -10,9 +10,10 @@ use Rattle.model.specs.Base.{bit, bits}
 use Rattle.model.specs.Banks.{bank, firstWord, secondWord, isActive, classOf, rank, width, shortWord, matches, belongs, firstNumber, numberOf, banksBelow, fourCounts}
 use Rattle.model.specs.Search.{firstHit, acceptance}
 use Rattle.model.specs.Reception.{malformed, sentFrame}
-use Rattle.model.specs.Registers.{registerAt, bankCount}
-use Rattle.model.specs.Step.{step}
-use Rattle.model.specs.Codes.{fifoNumber, offsetOf}
+use Rattle.model.specs.Registers.{bankCount}
+use Rattle.model.specs.Shown.{fm1r, fs1r, ffa1r, fact, fifoNumber}
+use Rattle.model.specs.Codes.{reads}
+use Rattle.model.specs.ReadBack.{Accepts, afterWrite, sets, Stays}
 use Rattle.model.specs.declared.Filters.{Filters}
 use Rattle.model.specs.declared.Bank.{Bank}
 use Rattle.model.specs.declared.FilterNumber.{FilterNumber}
@@ -26,10 +27,9 @@ use Rattle.model.specs.declared.Acceptance.the-variants.{Into, Rejected}
 use Rattle.model.specs.declared.Frame.{Frame}
 use Rattle.model.specs.declared.MailboxState.{MailboxState}
 use Rattle.model.specs.declared.Register.{Register}
-use Rattle.model.specs.declared.Register.the-variants.{Fm1r, Fs1r, Ffa1r, Fa1r, R1, R2}
+use Rattle.model.specs.declared.Register.the-variants.{R1, R2}
 use Rattle.model.specs.declared.Controller.{Controller}
 use Rattle.model.specs.declared.Step as steps
-use Rattle.model.specs.declared.Step.the-variants.{Reset, Read, Write, Idle, BitTimes, Activity, Start, Outcome, Receive, ReceiveError}
 
 -- ---- the numbers of the enums
 
@@ -183,18 +183,14 @@ pub record Filtering (n : ℕ) (g : Filters) (v : List ℕ) (w : ℕ) : Type 0 w
 
 -- ---- what the registers show
 
--- the word that a read of a register gives
-abbrev pub readAt : Controller → Register → ℕ
-readAt z r = step z (Read (offsetOf r)) .word
-
 -- what makes a filter of a bank match stands in FA1R, FFA1R, FS1R, FM1R, and in the bank's R1 and R2
 pub record Shown (z : Controller) (b : Bank) : Type 0 where
-  pub active : isActive (z .core .filters) b ≡ bit (b .0) (readAt z Fa1r)
-  pub fifo : (f : Fifo) → (belongs f (z .core .filters) b ≡ true) ↔ (bits (b .0) 1 (readAt z Ffa1r) ≡ fifoNumber f)
-  pub scale : scaleBit (classOf (z .core .filters) b) ≡ bit (b .0) (readAt z Fs1r)
-  pub mode : modeBit (classOf (z .core .filters) b) ≡ bit (b .0) (readAt z Fm1r)
-  pub r1 : b .0 < bankCount → firstWord (z .banks) b ≡ readAt z (R1 b)
-  pub r2 : b .0 < bankCount → secondWord (z .banks) b ≡ readAt z (R2 b)
+  pub active : isActive (z .core .filters) b ≡ fact b z
+  pub fifo : (f : Fifo) → (belongs f (z .core .filters) b ≡ true) ↔ (bits (b .0) 1 (ffa1r z) ≡ fifoNumber f)
+  pub scale : scaleBit (classOf (z .core .filters) b) ≡ bit (b .0) (fs1r z)
+  pub mode : modeBit (classOf (z .core .filters) b) ≡ bit (b .0) (fm1r z)
+  pub r1 : b .0 < bankCount → firstWord (z .banks) b ≡ reads z (R1 b)
+  pub r2 : b .0 < bankCount → secondWord (z .banks) b ≡ reads z (R2 b)
 
 -- ---- the banks' words
 
@@ -203,21 +199,7 @@ pub data BankWord : Register → Type 0 where
   wordR1 : (b : Bank) → b .0 < bankCount → BankWord (R1 b)
   wordR2 : (b : Bank) → b .0 < bankCount → BankWord (R2 b)
 
--- the step is a reset or a write to the register
-abbrev pub Touches : steps.Step → Register → Type 0
-Touches Reset r = Unit {0}
-Touches (Read o) r = ⊥
-Touches (Write o w) r = registerAt o ≡ r
-Touches Idle r = ⊥
-Touches (BitTimes n) r = ⊥
-Touches Activity r = ⊥
-Touches Start r = ⊥
-Touches (Outcome k) r = ⊥
-Touches (Receive x) r = ⊥
-Touches (ReceiveError k n) r = ⊥
-
 -- what was written to R1 or R2 of a bank reads back, all 32 bits of it; only that write and a reset change the word
 pub record BankWords (z : Controller) : Type 0 where
-  pub written : (r : Register) (w : ℕ) → BankWord r → step z (Write (offsetOf r) w) .code ≡ 0
-      → readAt (step z (Write (offsetOf r) w) .controller) r ≡ w
-  pub kept : (r : Register) (s : steps.Step) → BankWord r → (Touches s r → ⊥) → readAt (step z s .controller) r ≡ readAt z r
+  pub written : (r : Register) (w : ℕ) → BankWord r → Accepts z r w → reads (afterWrite z r w) r ≡ w
+  pub kept : (r : Register) (s : steps.Step) → BankWord r → sets s r ≡ false → Stays z s r

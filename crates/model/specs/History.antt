@@ -15,7 +15,7 @@ use Rattle.model.specs.Reception.{storedFrame}
 use Rattle.model.specs.Registers.{bankCount}
 use Rattle.model.specs.Step.{step}
 use Rattle.model.specs.Requests.{Requests, noneYet, next, event, entry, after}
-use Rattle.model.specs.Codes.{fifoNumber, shown}
+use Rattle.model.specs.Shown.{shown, esr, fm1r, fs1r, ffa1r, fa1r, ri, rdt, rdl, rdh, ti, tdt, tdl, tdh, rflm, abom, ttcm, inak, inNormal, fmp, boff, lec, rec, lbkm, finit, tec, timer, isDone, nextOf, bitTimes, fifoNumber}
 use Rattle.model.specs.declared.Mailbox.{Mailbox}
 use Rattle.model.specs.declared.Sender.{Sender}
 use Rattle.model.specs.declared.Sender.the-variants.{Nobody, From}
@@ -29,14 +29,6 @@ use Rattle.model.specs.declared.Controller.{Controller}
 use Rattle.model.specs.declared.Step as steps
 use Rattle.model.specs.declared.Step.the-variants.{Reset, Read, Write, Idle, BitTimes, Activity, Start, Outcome, Receive, ReceiveError}
 
--- the step is accepted
-abbrev pub isDone : Controller → steps.Step → Bool
-isDone z s = eqb (step z s .code) 0
-
--- MSR: INAK=0 and SLAK=0
-abbrev pub inNormal : Controller → Bool
-inNormal z = not (bit 0 (shown z 0x004)) && not (bit 1 (shown z 0x004))
-
 -- the words of n registers from an offset on
 unfoldable pub wordsFrom : Controller → ℕ → ℕ → List ℕ
 wordsFrom z o zero = []
@@ -44,25 +36,13 @@ wordsFrom z o (suc n) = shown z o ∷ wordsFrom z (o + 4) n
 
 -- ---- the timer
 
-abbrev pub ticks : steps.Step → ℕ
-ticks Reset = 0
-ticks (Read o) = 0
-ticks (Write o w) = 0
-ticks Idle = 0
-ticks (BitTimes n) = n
-ticks Activity = 0
-ticks Start = 0
-ticks (Outcome r) = 0
-ticks (Receive x) = 0
-ticks (ReceiveError k n) = 0
-
--- in Normal with TTCM=1 it adds n; after 65535 it reads 0; while TTCM=0 it is 0
+-- in Normal with TTCM=1 it adds the bit times; after 65535 it reads 0; while TTCM=0 it is 0
 abbrev pub timerNext : ℕ → Controller → steps.Step → ℕ
-timerNext t z s = pick (bit 7 (shown (step z s .controller) 0x000)) (pick (isDone z s && inNormal z) ((t + ticks s) % 65536) t) 0
+timerNext t z s = pick (ttcm (nextOf z s)) (pick (isDone z s && inNormal z) ((t + bitTimes s) % 65536) t) 0
 
 unfoldable pub timerFrom : ℕ → Controller → List steps.Step → ℕ
 timerFrom t z [] = t
-timerFrom t z (s ∷ l) = timerFrom (timerNext t z s) (step z s .controller) l
+timerFrom t z (s ∷ l) = timerFrom (timerNext t z s) (nextOf z s) l
 
 -- ---- the TIME of a mailbox: what TDT was written with, and from a start on the timer; a start's word is the mailbox
 
@@ -84,13 +64,13 @@ timeNext m x t z s = pick (isDone z s) (timeAfter m x t s (step z s .word)) x
 
 unfoldable pub timeFrom : Mailbox → ℕ → ℕ → Controller → List steps.Step → ℕ
 timeFrom m x t z [] = x
-timeFrom m x t z (s ∷ l) = timeFrom m (timeNext m x t z s) (timerNext t z s) (step z s .controller) l
+timeFrom m x t z (s ∷ l) = timeFrom m (timeNext m x t z s) (timerNext t z s) (nextOf z s) l
 
 -- ---- the frames that wait in a FIFO
 
 -- where the filters send a frame with this identifier word: FM1R, FS1R, FFA1R, FA1R, FINIT, and R1 and R2 of each bank as they read
 abbrev pub filtersShown : Controller → Filters
-filtersShown z = record { mode = shown z 0x204; scale = shown z 0x20C; assignment = shown z 0x214; activation = shown z 0x21C; finit = bit 0 (shown z 0x200) }
+filtersShown z = record { mode = fm1r z; scale = fs1r z; assignment = ffa1r z; activation = fa1r z; finit = finit z }
 
 abbrev pub filtered : Controller → ℕ → Acceptance
 filtered z w = acceptance bankCount (filtersShown z) (wordsFrom z 0x240 (2 * bankCount)) w
@@ -98,10 +78,10 @@ filtered z w = acceptance bankCount (filtersShown z) (wordsFrom z 0x240 (2 * ban
 -- what mailbox m sends: TI without TXRQ, TDT, TDL, TDH
 abbrev pub frameIn : Controller → Mailbox → Frame
 frameIn z m = record {
-  identifier = sentIdentifier (shown z (0x180 + 0x10 * number m) / 2 * 2);
-  low = shown z (0x188 + 0x10 * number m);
-  high = shown z (0x18C + 0x10 * number m);
-  length = bits 0 4 (shown z (0x184 + 0x10 * number m));
+  identifier = sentIdentifier (ti m z / 2 * 2);
+  low = tdl m z;
+  high = tdh m z;
+  length = bits 0 4 (tdt m z);
 }
 
 -- what an accepted step means to a FIFO; an arriving frame comes with RFLM
@@ -127,8 +107,8 @@ writeTraffic f o w = pick (eqb o 0x000 && bit 15 w) empties (pick (eqb o (0x00C 
 abbrev pub endTraffic : Fifo → Sender → Controller → ℕ → Traffic
 endTraffic f Nobody z r = none
 endTraffic f (From m) z r =
-    pick (eqb r 0 && bit 30 (shown z 0x01C) && not (bit 0 (shown z 0x200)))
-    (arrival f (filtered z (frameIn z m .identifier)) (frameIn z m) (shown z (0x184 + 0x10 * number m) / 65536) (bit 3 (shown z 0x000)))
+    pick (eqb r 0 && lbkm z && not (finit z))
+    (arrival f (filtered z (frameIn z m .identifier)) (frameIn z m) (tdt m z / 65536) (rflm z))
     none
 
 -- t: the timer; v: the mailbox on the wire
@@ -141,7 +121,7 @@ stepTraffic f t v z (BitTimes n) = none
 stepTraffic f t v z Activity = none
 stepTraffic f t v z Start = none
 stepTraffic f t v z (Outcome r) = endTraffic f v z r
-stepTraffic f t v z (Receive x) = arrival f (filtered z (x .identifier)) x t (bit 3 (shown z 0x000))
+stepTraffic f t v z (Receive x) = arrival f (filtered z (x .identifier)) x t (rflm z)
 stepTraffic f t v z (ReceiveError k n) = none
 
 abbrev pub traffic : Fifo → ℕ → Sender → Controller → steps.Step → Traffic
@@ -163,7 +143,7 @@ waitingNext l (arrives x locked) = pick (ltb (length l) 3) (l ++ x ∷ []) (pick
 unfoldable pub waitingFrom : Fifo → List StoredFrame → ℕ → Requests → Controller → List steps.Step → List StoredFrame
 waitingFrom f l t b z [] = l
 waitingFrom f l t b z (s ∷ r) =
-    waitingFrom f (waitingNext l (traffic f t (b .transmitting) z s)) (timerNext t z s) (next b (event (entry s (step z s)))) (step z s .controller) r
+    waitingFrom f (waitingNext l (traffic f t (b .transmitting) z s)) (timerNext t z s) (next b (event (entry s (step z s)))) (nextOf z s) r
 
 -- what the output shows: the oldest frame, zeros where none waits
 abbrev pub oldestFrame : List StoredFrame → StoredFrame
@@ -200,9 +180,9 @@ pub record Seen : Type 0 where
 abbrev pub seen : Controller → steps.Step → Seen
 seen z s = record {
   done = isDone z s;
-  abom = bit 6 (shown z 0x000);
+  abom = abom z;
   normal = inNormal z;
-  enters = not (bit 0 (shown z 0x004)) && bit 0 (shown (step z s .controller) 0x004);
+  enters = not (inak z) && inak (nextOf z s);
 }
 
 -- TEC becomes t
@@ -277,7 +257,7 @@ countsNext a v s = initializationEntered (v .enters) (pick (v .done) (stepCounte
 
 unfoldable pub countsFrom : ErrorCounts → Controller → List steps.Step → ErrorCounts
 countsFrom a z [] = a
-countsFrom a z (s ∷ l) = countsFrom (countsNext a (seen z s) s) (step z s .controller) l
+countsFrom a z (s ∷ l) = countsFrom (countsNext a (seen z s) s) (nextOf z s) l
 
 -- ---- the tie: counted from nothing, for every list of steps from hardware reset whose numbers fit their widths (`StepsRange`)
 
@@ -293,25 +273,22 @@ timerAt z l = timerFrom 0 z l
 abbrev pub errorCounts : Controller → List steps.Step → ErrorCounts
 errorCounts z l = countsFrom noErrors z l
 
-abbrev pub readAfter : Controller → List steps.Step → ℕ → ℕ
-readAfter z l o = shown (after z l) o
-
 pub record Tied (z : Controller) (l : List steps.Step) : Type 0 where
   -- FMP is the number of frames that wait, and the output is the oldest
-  pub fmp : (f : Fifo) → bits 0 2 (readAfter z l (0x00C + 4 * fifoNumber f)) ≡ length (frames f z l)
-  pub ri : (f : Fifo) → readAfter z l (0x1B0 + 0x10 * fifoNumber f) ≡ oldestFrame (frames f z l) .ri
-  pub rdt : (f : Fifo) → readAfter z l (0x1B4 + 0x10 * fifoNumber f) ≡ oldestFrame (frames f z l) .rdt
-  pub rdl : (f : Fifo) → readAfter z l (0x1B8 + 0x10 * fifoNumber f) ≡ oldestFrame (frames f z l) .rdl
-  pub rdh : (f : Fifo) → readAfter z l (0x1BC + 0x10 * fifoNumber f) ≡ oldestFrame (frames f z l) .rdh
+  pub fmp : (f : Fifo) → fmp f (after z l) ≡ length (frames f z l)
+  pub ri : (f : Fifo) → ri f (after z l) ≡ oldestFrame (frames f z l) .ri
+  pub rdt : (f : Fifo) → rdt f (after z l) ≡ oldestFrame (frames f z l) .rdt
+  pub rdl : (f : Fifo) → rdl f (after z l) ≡ oldestFrame (frames f z l) .rdl
+  pub rdh : (f : Fifo) → rdh f (after z l) ≡ oldestFrame (frames f z l) .rdh
   -- TIME in TDT is what was written, or the timer at the last start
-  pub time : (m : Mailbox) → bits 16 16 (readAfter z l (0x184 + 0x10 * number m)) ≡ timeAt m z l
+  pub time : (m : Mailbox) → bits 16 16 (tdt m (after z l)) ≡ timeAt m z l
   -- in ESR: the low byte of TEC, BOFF, REC and LEC are what the events say
-  pub tecField : bits 16 8 (readAfter z l 0x018) ≡ errorCounts z l .tec % 256
-  pub boff : bit 2 (readAfter z l 0x018) ≡ isBusOff (errorCounts z l)
-  pub rec : bits 24 8 (readAfter z l 0x018) ≡ errorCounts z l .rec
-  pub lec : bits 4 3 (readAfter z l 0x018) ≡ errorCounts z l .lec
+  pub tecField : bits 16 8 (esr (after z l)) ≡ errorCounts z l .tec % 256
+  pub boff : boff (after z l) ≡ isBusOff (errorCounts z l)
+  pub rec : rec (after z l) ≡ errorCounts z l .rec
+  pub lec : lec (after z l) ≡ errorCounts z l .lec
   -- so is what no register shows: TEC above 255, the recovery count, whether Initialization was entered since bus-off, the timer
-  pub tec : after z l .core .errors .tec ≡ errorCounts z l .tec
+  pub tec : tec (after z l) ≡ errorCounts z l .tec
   pub recovery : after z l .core .control .recovery ≡ errorCounts z l .idles
   pub reinitialized : after z l .core .control .reinitialized ≡ errorCounts z l .reinitialized
-  pub timer : after z l .core .control .timer ≡ timerAt z l
+  pub timer : timer (after z l) ≡ timerAt z l

@@ -7,11 +7,13 @@ use lib.Dec.{eqb}
 use Rattle.model.specs.Base.{bit, bits}
 use Rattle.model.specs.Queue.{number}
 use Rattle.model.specs.Step.{step}
-use Rattle.model.specs.ReadBack.{reads, Accepts, afterWrite, Within, sets, Stays}
+use Rattle.model.specs.Shown.{tme, timer, isDone, nextOf}
+use Rattle.model.specs.Codes.{reads}
+use Rattle.model.specs.ReadBack.{Accepts, afterWrite, Within, sets, Stays}
 use Rattle.model.specs.Reachable.{InRange}
 use Rattle.model.specs.declared.Mailbox.{Mailbox}
 use Rattle.model.specs.declared.Controller.{Controller}
-use Rattle.model.specs.declared.Register.the-variants.{Tsr, Ti, Tdt, Tdl, Tdh}
+use Rattle.model.specs.declared.Register.the-variants.{Ti, Tdt, Tdl, Tdh}
 use Rattle.model.specs.declared.Step as steps
 use Rattle.model.specs.declared.Step.the-variants.{Reset, Read, Write, Idle, BitTimes, Activity, Start, Outcome, Receive, ReceiveError}
 
@@ -30,7 +32,7 @@ starts z (Write o w) m = false
 starts z Idle m = false
 starts z (BitTimes n) m = false
 starts z Activity m = false
-starts z Start m = eqb (step z Start .code) 0 && eqb (step z Start .word) (number m)
+starts z Start m = isDone z Start && eqb (step z Start .word) (number m)
 starts z (Outcome r) m = false
 starts z (Receive x) m = false
 starts z (ReceiveError k n) m = false
@@ -38,12 +40,12 @@ starts z (ReceiveError k n) m = false
 -- the words of mailbox m, and what a step does to them
 pub record MailboxStays (z : Controller) (s : steps.Step) (m : Mailbox) : Type 0 where
   -- TXRQ reads 1 exactly while the mailbox isn't empty
-  pub txrq : bit 0 (reads z (Ti m)) ≡ not (bit (26 + number m) (reads z Tsr))
+  pub txrq : bit 0 (reads z (Ti m)) ≡ not (tme m z)
   -- but for TIME, a word changes only by a write to it or by a hardware reset
-  pub ti : sets s (Ti m) ≡ false → (i : ℕ) → bit (1 + i) (reads (step z s .controller) (Ti m)) ≡ bit (1 + i) (reads z (Ti m))
-  pub tdt : sets s (Tdt m) ≡ false → bits 0 16 (reads (step z s .controller) (Tdt m)) ≡ bits 0 16 (reads z (Tdt m))
+  pub ti : sets s (Ti m) ≡ false → (i : ℕ) → bit (1 + i) (reads (nextOf z s) (Ti m)) ≡ bit (1 + i) (reads z (Ti m))
+  pub tdt : sets s (Tdt m) ≡ false → bits 0 16 (reads (nextOf z s) (Tdt m)) ≡ bits 0 16 (reads z (Tdt m))
   pub tdl : sets s (Tdl m) ≡ false → Stays z s (Tdl m)
   pub tdh : sets s (Tdh m) ≡ false → Stays z s (Tdh m)
   -- at its start TIME takes the timer; that of no other mailbox changes
-  pub time : starts z s m ≡ true → InRange z → bits 16 16 (reads (step z s .controller) (Tdt m)) ≡ z .core .control .timer
+  pub time : starts z s m ≡ true → InRange z → bits 16 16 (reads (nextOf z s) (Tdt m)) ≡ timer z
   pub notStarted : sets s (Tdt m) ≡ false → starts z s m ≡ false → Stays z s (Tdt m)

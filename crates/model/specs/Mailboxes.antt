@@ -1,6 +1,6 @@
 -- The transmit mailboxes: their words and flags, their priority, TSR.
 -- Document 01: "Register map" (TI, TDT, TSR, CODE, LOW), "Bus events" (start, own end), "Order, filters, storage" (order).
-use mathlib.Core.Bool.{Bool, true, false, not, _&&_, _||_}
+use mathlib.Core.Bool.{Bool, false, not, _&&_, _||_}
 use Prim.Native.Nat.{ℕ, _+_, _*_, _/_, _%_, _^_}
 use lib.Dec.{eqb, ltb}
 use Rattle.model.specs.Base.{pick, bit, bits, one}

@@ -1,52 +1,17 @@
 -- Modes, the flags of MSR and the timer, of what registers show.
 -- Document 01: "Modes", "Bus events" (bit times, activity, start, own end), "What is modelled" (RX, SAMP, TXM), "Register map" (MSR).
--- Bit places are those of 000.
+-- RX, SAMP and RXM at the places of 000.
 use mathlib.Core.Bool.{Bool, true, false, not, _&&_, _||_}
 use mathlib.Core.Path.{_≡_}
-use Prim.Native.Nat.{ℕ, _+_, _*_, _%_, _^_, _<_}
+use Prim.Native.Nat.{_+_, _*_, _%_, _^_, _<_}
 use lib.Dec.{eqb}
 use Rattle.model.specs.Base.{pick, bit, bits, one}
-use Rattle.model.specs.Shown.{mcr, msr, ier, Done, nextOf, setsBit, isIdle, isActivity, isStart, isOutcome, resets}
+use Rattle.model.specs.Shown.{mcr, msr, inrq, sleep, awum, ttcm, slak, wkui, slaki, txm, mode, slkie, timer, Done, nextOf, writesOne, isIdle, isActivity, isStart, isOutcome, bitTimes, resets}
+use Rattle.model.specs.ReadBack.{sets}
 use Rattle.model.specs.declared.Controller.{Controller}
+use Rattle.model.specs.declared.Register.the-variants.{Mcr}
 use Rattle.model.specs.declared.Step as steps
-use Rattle.model.specs.declared.Step.the-variants.{Reset, Read, Write, Idle, BitTimes, Activity, Start, Outcome, Receive, ReceiveError}
-
--- ---- bits by name
-
-abbrev pub inrq : Controller → Bool
-inrq z = bit 0 (mcr z)
-
-abbrev pub sleep : Controller → Bool
-sleep z = bit 1 (mcr z)
-
-abbrev pub awum : Controller → Bool
-awum z = bit 5 (mcr z)
-
-abbrev pub ttcm : Controller → Bool
-ttcm z = bit 7 (mcr z)
-
-abbrev pub slkie : Controller → Bool
-slkie z = bit 17 (ier z)
-
-abbrev pub slak : Controller → Bool
-slak z = bit 1 (msr z)
-
-abbrev pub wkui : Controller → Bool
-wkui z = bit 3 (msr z)
-
-abbrev pub slaki : Controller → Bool
-slaki z = bit 4 (msr z)
-
-abbrev pub txm : Controller → Bool
-txm z = bit 8 (msr z)
-
--- INAK and SLAK: 0 Normal, 1 Initialization, 2 Sleep
-abbrev pub mode : Controller → ℕ
-mode z = bits 0 2 (msr z)
-
--- TIME of the next frame that is received or started
-abbrev pub timer : Controller → ℕ
-timer z = z .core .control .timer
+use Rattle.model.specs.declared.Step.the-variants.{Activity}
 
 -- ---- the rest of MSR
 
@@ -62,18 +27,9 @@ pub record ModeStatus (z : Controller) : Type 0 where
 
 -- ---- what an accepted step does
 
--- the step may change MCR: a reset, a write to it, an activity
+-- the step may change MCR: an activity, a hardware reset, a write to it
 abbrev pub touchesMcr : steps.Step → Bool
-touchesMcr Reset = true
-touchesMcr (Read o) = false
-touchesMcr (Write o w) = eqb o 0x000
-touchesMcr Idle = false
-touchesMcr (BitTimes n) = false
-touchesMcr Activity = true
-touchesMcr Start = false
-touchesMcr (Outcome r) = false
-touchesMcr (Receive x) = false
-touchesMcr (ReceiveError k n) = false
+touchesMcr s = isActivity s || sets s Mcr
 
 -- the accepted step s leads from z to y
 pub record ModeRule (z : Controller) (s : steps.Step) (y : Controller) : Type 0 where
@@ -91,19 +47,7 @@ pub record SleepFlag (z : Controller) (s : steps.Step) (y : Controller) : Type 0
   pub awake : slak y ≡ false → slaki y ≡ false
   pub reset : resets s ≡ true → slaki y ≡ false
   pub entered : resets s ≡ false → slak z ≡ false → slak y ≡ true → slaki y ≡ slkie y
-  pub stayed : resets s ≡ false → slak z ≡ true → slak y ≡ true → slaki y ≡ not (setsBit 0x004 4 s) && slaki z
-
-abbrev pub bitTimes : steps.Step → ℕ
-bitTimes Reset = 0
-bitTimes (Read o) = 0
-bitTimes (Write o w) = 0
-bitTimes Idle = 0
-bitTimes (BitTimes n) = n
-bitTimes Activity = 0
-bitTimes Start = 0
-bitTimes (Outcome r) = 0
-bitTimes (Receive x) = 0
-bitTimes (ReceiveError k n) = 0
+  pub stayed : resets s ≡ false → slak z ≡ true → slak y ≡ true → slaki y ≡ not (writesOne 0x004 4 s) && slaki z
 
 -- While TTCM=0 the timer is 0. In Normal with TTCM=1 it adds the bit times; after 65535 it reads 0
 pub record Timer (z : Controller) (s : steps.Step) (y : Controller) : Type 0 where
@@ -116,7 +60,7 @@ pub record ModeChange (z : Controller) (s : steps.Step) (y : Controller) : Type 
   pub sameMcr : touchesMcr s ≡ false → mcr y ≡ mcr z
   pub sleepFlag : SleepFlag z s y
   -- WKUI: an activity sets it, 1 written to it and a reset clear it
-  pub wakeUp : wkui y ≡ isActivity s || (not (resets s || setsBit 0x004 3 s) && wkui z)
+  pub wakeUp : wkui y ≡ isActivity s || (not (resets s || writesOne 0x004 3 s) && wkui z)
   -- TXM: a start puts an own frame on the wire, its end and a reset take it away
   pub onWire : txm y ≡ isStart s || (not (isOutcome s || resets s) && txm z)
   pub timed : Timer z s y

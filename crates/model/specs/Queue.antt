@@ -1,7 +1,7 @@
 -- The requests of the three mailboxes: their order, the mailbox that is transmitting, the remembered aborts.
 -- Document 01: "Register map" (TSR, TI with TXRQ), "Bus events" (start, own end). 01 says "on the wire" for transmitting,
 -- "own end" for the outcome of a transmission, "request order" for the order.
-use mathlib.Core.Bool.{Bool, true, false, not, _&&_, _||_}
+use mathlib.Core.Bool.{Bool, true, false, _&&_, _||_}
 use mathlib.Core.List.{List, [], _∷_}
 use Prim.Native.Nat.{ℕ}
 use lib.Dec.{eqb}

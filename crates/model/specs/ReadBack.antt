@@ -6,8 +6,8 @@ use mathlib.Core.Path.{_≡_}
 use Prim.Native.Nat.{ℕ, _+_}
 use lib.Dec.{eqb}
 use Rattle.model.specs.Base.{bit, bits}
-use Rattle.model.specs.Step.{step}
-use Rattle.model.specs.Codes.{offsetOf}
+use Rattle.model.specs.Shown.{shown, Done, nextOf}
+use Rattle.model.specs.Codes.{offsetOf, reads}
 use Rattle.model.specs.declared.Controller.{Controller}
 use Rattle.model.specs.declared.Register.{Register}
 use Rattle.model.specs.declared.Register.the-variants.{Mcr, Msr, Tsr, Ier, Btr, Fmr, Fm1r, Fs1r, Ffa1r, Fa1r}
@@ -16,16 +16,12 @@ use Rattle.model.specs.declared.Step.the-variants.{Reset, Read, Write, I
 
 -- ---- accesses
 
--- the word that a read of the register gives
-abbrev pub reads : Controller → Register → ℕ
-reads z r = step z (Read (offsetOf r)) .word
-
 -- a write to the register is accepted, and the controller after it
 abbrev pub Accepts : Controller → Register → ℕ → Type 0
-Accepts z r w = step z (Write (offsetOf r) w) .code ≡ 0
+Accepts z r w = Done z (Write (offsetOf r) w)
 
 abbrev pub afterWrite : Controller → Register → ℕ → Controller
-afterWrite z r w = step z (Write (offsetOf r) w) .controller
+afterWrite z r w = nextOf z (Write (offsetOf r) w)
 
 -- x has the bits of w that the mask has, and no others
 abbrev pub Within : ℕ → ℕ → ℕ → Type 0
@@ -61,11 +57,11 @@ sets (ReceiveError k n) r = false
 
 -- the register reads after the step as it did before
 abbrev pub Stays : Controller → steps.Step → Register → Type 0
-Stays z s r = reads (step z s .controller) r ≡ reads z r
+Stays z s r = reads (nextOf z s) r ≡ reads z r
 
 -- no other step changes one of these, but that activity may clear SLEEP, bit 1 of MCR
 pub record OnlyWrites (z : Controller) (s : steps.Step) : Type 0 where
-  pub mcr : sets s Mcr ≡ false → (i : ℕ) → eqb i 1 ≡ false → bit i (reads (step z s .controller) Mcr) ≡ bit i (reads z Mcr)
+  pub mcr : sets s Mcr ≡ false → (i : ℕ) → eqb i 1 ≡ false → bit i (reads (nextOf z s) Mcr) ≡ bit i (reads z Mcr)
   pub ier : sets s Ier ≡ false → Stays z s Ier
   pub btr : sets s Btr ≡ false → Stays z s Btr
   pub fmr : sets s Fmr ≡ false → Stays z s Fmr
@@ -81,7 +77,7 @@ has [] n = false
 has (x ∷ l) n = eqb x n || has l n
 
 abbrev pub afterReset : Controller → ℕ → ℕ
-afterReset z o = step (step z Reset .controller) (Read o) .word
+afterReset z o = shown (nextOf z Reset) o
 
 pub record ResetWords (z : Controller) : Type 0 where
   pub mcr : afterReset z (offsetOf Mcr) ≡ 0x00010002

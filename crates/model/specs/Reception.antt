@@ -1,8 +1,7 @@
 -- Frames and the two FIFOs of three.
 -- Document 01: "Bus events" (frame), "Order, filters, storage" (storage), "Register map" (RFxR, FIFO output).
 use mathlib.Core.Bool.{Bool, true, false, not, _&&_, _||_}
-use mathlib.Core.List.{List, [], _∷_}
-use Prim.Native.Nat.{ℕ, _+_, _*_, _-_, _/_, _%_, _^_}
+use Prim.Native.Nat.{ℕ, _+_, _*_, _-_, _%_, _^_}
 use lib.Dec.{eqb, ltb, leb}
 use Rattle.model.specs.Base.{pick, bit, bits, one}
 use Rattle.model.specs.Mailboxes.{sentIdentifier}

@@ -1,6 +1,6 @@
 -- The register map: an offset decoded once, and what each register reads and takes.
 -- Document 01: "Register map"; codes 1, 3 and 2 of "Refusal numbers".
-use mathlib.Core.Bool.{Bool, true, false, not, _&&_, _||_}
+use mathlib.Core.Bool.{Bool, true, false, not, _&&_}
 use mathlib.Core.List.{List}
 use Prim.Native.Nat.{ℕ, _+_, _*_, _-_, _/_, _%_, _^_}
 use lib.Dec.{eqb, ltb, leb}

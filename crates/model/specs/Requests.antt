@@ -1,6 +1,6 @@
 -- The requests as an observer knows them who sees each step with its code, and a start's word, and nothing of the
 -- controller's state. Document 01: "Request book", one clause for each of its lines.
-use mathlib.Core.Bool.{Bool, true, false, not, _&&_, _||_}
+use mathlib.Core.Bool.{Bool, true, false, _&&_, _||_}
 use mathlib.Core.List.{List, [], _∷_}
 use Prim.Native.Nat.{ℕ}
 use lib.Dec.{eqb}

@@ -9,7 +9,6 @@ use Rattle.model.specs.Base.{pick, one}
 use Rattle.model.specs.Step.{step, linesOf}
 use Rattle.model.specs.declared.Controller.{Controller}
 use Rattle.model.specs.declared.Stepped.{Stepped}
-use Rattle.model.specs.declared.Frame.{Frame}
 use Rattle.model.specs.declared.Reading.{Reading}
 use Rattle.model.specs.declared.Reading.the-variants.{End, Malformed, Found}
 use Rattle.model.specs.declared.Replayed.{Replayed}

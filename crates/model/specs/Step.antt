@@ -1,9 +1,9 @@
 -- The step: one register access, bus event or hardware reset.
 -- Document 01: "Refusal numbers", "Bus events", "Modes"; interrupt lines in the last paragraph of "Bus events".
 -- Refuse first, then apply: the code is worked out from the state before, and code 0 alone changes anything.
-use mathlib.Core.Bool.{Bool, true, false, not, _&&_, _||_}
+use mathlib.Core.Bool.{Bool, true, not, _&&_, _||_}
 use mathlib.Core.List.{List}
-use Prim.Native.Nat.{ℕ, _+_, _*_, _/_, _%_}
+use Prim.Native.Nat.{ℕ, _+_, _*_, _/_}
 use lib.Dec.{eqb, ltb, leb}
 use Rattle.model.specs.Base.{pick, bit, one}
 use Rattle.model.specs.Queue.{isEmpty, senderNumber}
@@ -19,7 +19,6 @@ use Rattle.model.specs.declared.Fifo.the-variants.{F0, F1}
 use Rattle.model.specs.declared.Mailbox.{Mailbox}
 use Rattle.model.specs.declared.Transmit.{Transmit}
 use Rattle.model.specs.declared.Frame.{Frame}
-use Rattle.model.specs.declared.StoredFrame.{StoredFrame}
 use Rattle.model.specs.declared.Acceptance.{Acceptance}
 use Rattle.model.specs.declared.Acceptance.the-variants.{Rejected}
 use Rattle.model.specs.declared.Core.{Core}
