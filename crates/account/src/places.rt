@@ -23,51 +23,66 @@ fn fifo_number(f: Fifo) -> u32
     }
 }
 
-fn single(kind: u32) -> Place
-    ensures { λ r. ⌜ r ≡ places.place kind 0 ⌝ }
-{
-    Place {
-        kind: kind,
-        index: 0,
-    }
-}
-
-fn at_number(kind: u32, index: u32) -> Place
-    ensures { λ r. ⌜ r ≡ places.place kind index ⌝ }
-{
-    Place {
-        kind: kind,
-        index: index,
-    }
-}
-
 fn place_of(g: Register) -> Place
     ensures { λ r. ⌜ r ≡ places.placeOf g ⌝ }
 {
     match g {
-        Register::Mcr => single(0),
-        Register::Msr => single(1),
-        Register::Tsr => single(2),
-        Register::Rfr(f) => at_number(3, fifo_number(f)),
-        Register::Ier => single(4),
-        Register::Esr => single(5),
-        Register::Btr => single(6),
-        Register::Ti(m) => at_number(7, queue::number(m)),
-        Register::Tdt(m) => at_number(8, queue::number(m)),
-        Register::Tdl(m) => at_number(9, queue::number(m)),
-        Register::Tdh(m) => at_number(10, queue::number(m)),
-        Register::Ri(f) => at_number(11, fifo_number(f)),
-        Register::Rdt(f) => at_number(12, fifo_number(f)),
-        Register::Rdl(f) => at_number(13, fifo_number(f)),
-        Register::Rdh(f) => at_number(14, fifo_number(f)),
-        Register::Fmr => single(15),
-        Register::R1(b) => at_number(16, b.0),
-        Register::R2(b) => at_number(17, b.0),
-        Register::Absent => single(18),
-        Register::Fm1r => single(19),
-        Register::Fs1r => single(20),
-        Register::Ffa1r => single(21),
-        Register::Fa1r => single(22),
+        Register::Mcr => Place { kind: 0, index: 0 },
+        Register::Msr => Place { kind: 1, index: 0 },
+        Register::Tsr => Place { kind: 2, index: 0 },
+        Register::Rfr(f) => Place {
+            kind: 3,
+            index: fifo_number(f),
+        },
+        Register::Ier => Place { kind: 4, index: 0 },
+        Register::Esr => Place { kind: 5, index: 0 },
+        Register::Btr => Place { kind: 6, index: 0 },
+        Register::Ti(m) => Place {
+            kind: 7,
+            index: queue::number(m),
+        },
+        Register::Tdt(m) => Place {
+            kind: 8,
+            index: queue::number(m),
+        },
+        Register::Tdl(m) => Place {
+            kind: 9,
+            index: queue::number(m),
+        },
+        Register::Tdh(m) => Place {
+            kind: 10,
+            index: queue::number(m),
+        },
+        Register::Ri(f) => Place {
+            kind: 11,
+            index: fifo_number(f),
+        },
+        Register::Rdt(f) => Place {
+            kind: 12,
+            index: fifo_number(f),
+        },
+        Register::Rdl(f) => Place {
+            kind: 13,
+            index: fifo_number(f),
+        },
+        Register::Rdh(f) => Place {
+            kind: 14,
+            index: fifo_number(f),
+        },
+        Register::Fmr => Place { kind: 15, index: 0 },
+        Register::R1(b) => Place {
+            kind: 16,
+            index: b.0,
+        },
+        Register::R2(b) => Place {
+            kind: 17,
+            index: b.0,
+        },
+        Register::Absent => Place { kind: 18, index: 0 },
+        Register::Fm1r => Place { kind: 19, index: 0 },
+        Register::Fs1r => Place { kind: 20, index: 0 },
+        Register::Ffa1r => Place { kind: 21, index: 0 },
+        Register::Fa1r => Place { kind: 22, index: 0 },
     }
 }
 
