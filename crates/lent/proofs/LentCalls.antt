@@ -97,25 +97,32 @@ module _ {M : Type 1} (𝓤 : URA M) (H : Heap 𝓤) (A : Atoms 𝓤) (W : Given
 
 -- ---- the call, with the parameters ss that make the step e, and the function's own parameters ss₀, which are passed on
 
-module _ (ss : List (Slot 1)) (e : (κs : Lfts 1) → Denots (typesAt ss κs) → Step) (still : (κs : Lfts 1) (a : Denots (typesAt ss κs)) → Fins κs ss (all yes ss) a)
-    (ss₀ : List (Slot 0)) (e₀ : (κs : Lfts 0) → Denots (typesAt ss₀ κs) → Step) (still₀ : (κs : Lfts 0) (a : Denots (typesAt ss₀ κs)) → Fins κs ss₀ (all yes ss₀) a) where
+pub record Call : Type 2 where
+  pub ss : List (Slot 1)
+  pub e : (κs : Lfts 1) → Denots (typesAt ss κs) → Step
+  pub still : (κs : Lfts 1) (a : Denots (typesAt ss κs)) → Fins κs ss (all yes ss) a
+  pub ss₀ : List (Slot 0)
+  pub e₀ : (κs : Lfts 0) → Denots (typesAt ss₀ κs) → Step
+  pub still₀ : (κs : Lfts 0) (a : Denots (typesAt ss₀ κs)) → Fins κs ss₀ (all yes ss₀) a
+
+module _ (k : Call) where
   abbrev pub own : Ended
-  own = record { signature = record { lifetimes = 0; outlives = []; params = plain (λ _. T.the-row) ∷ ss₀; result = plain (λ _. S.the-row) }; kept = (yes, all yes ss₀) }
+  own = record { signature = record { lifetimes = 0; outlives = []; params = plain (λ _. T.the-row) ∷ (k .ss₀); result = plain (λ _. S.the-row) }; kept = (yes, all yes (k .ss₀)) }
 
   abbrev stayed : Stays (own .signature .params) (own .kept)
-  stayed = (stay-dropped (plain (λ _. T.the-row)) yes, dropped ss₀)
+  stayed = (stay-dropped (plain (λ _. T.the-row)) yes, dropped (k .ss₀))
 
   abbrev pub clauses : {M : Type 1} (𝓤 : URA M) → Clauses 𝓤 own
-  clauses 𝓤 κs a = record { ghost = Unit {0}; requires = λ _. emp 𝓤; ensures = λ _ r z. fact 𝓤 (r ≡ stepOf (a .0) (e₀ κs (a .1))) }
+  clauses 𝓤 κs a = record { ghost = Unit {0}; requires = λ _. emp 𝓤; ensures = λ _ r z. fact 𝓤 (r ≡ stepOf (a .0) ((k .e₀) κs (a .1))) }
 
   abbrev called : Ended
-  called = calls.ended ss e still
+  called = calls.ended (k .ss) (k .e) (k .still)
 
   module _ {M : Type 1} (𝓤 : URA M) (H : Heap 𝓤) (A : Atoms 𝓤) (W : Given 𝓤 H A) where
     abbrev pub CallC : Contract 𝓤
-    CallC = tripleOf 𝓤 H A (called .signature) (closing 𝓤 H A called (calls.clauses ss e still 𝓤))
+    CallC = tripleOf 𝓤 H A (called .signature) (closing 𝓤 H A called (calls.clauses (k .ss) (k .e) (k .still) 𝓤))
 
-    module _ (κs : Lfts 0) (qs : Shares 0) (z : Controller) (a : Denots (typesAt ss₀ κs)) (vss : Valss (typesAt ss₀ κs)) where
+    module _ (κs : Lfts 0) (qs : Shares 0) (z : Controller) (a : Denots (typesAt (k .ss₀) κs)) (vss : Valss (typesAt (k .ss₀) κs)) where
       abbrev Post : Val → SProp 𝓤
       Post = walkOf 𝓤 H A own stayed (clauses 𝓤) .post ((κs, qs, tt, (z, a), (valC z ∷ [], vss)), tt)
 
@@ -123,16 +130,16 @@ module _ (ss : List (Slot 1)) (e : (κs : Lfts 1) → Denots (typesAt ss κs) �
       I = onEntry 𝓤 H A (own .signature) κs qs (z, a) (valC z ∷ [], vss)
 
       abbrev Done : Answer → Controller → Type 0
-      Done b c = Taken z (e₀ κs a) b c
+      Done b c = Taken z ((k .e₀) κs a) b c
 
       exits : (c : Controller) (b : Answer) (r : Stepped) → Done b c → r ≡ stepped c b → Is S.the-row r (valR r ∷ []) → ent 𝓤 I (Post (valR r))
       exits c b r d p is =
-          qed W (raw I ∷ []) ∵ drop ! $ suffices ! _ (ends-at 𝓤 H A own stayed (clauses 𝓤) W ((κs, qs, tt, (z, a), (valC z ∷ [], vss)), tt) (valR r) r (tt, still₀ κs a) (tt, fits-all ss₀ κs a (still₀ κs a))) $
-          says ! (joined (stepOf z (e₀ κs a)) r c b d p) $ nothing ! $ frame ! $ use0 W (‵ (hasOf κs ss₀ (all yes ss₀) (dropped ss₀) a (still₀ κs a) vss)) (has-all 𝓤 H A W ss₀ κs a (still₀ κs a) vss) $ nothing ! $ fjoin ! $
+          qed W (raw I ∷ []) ∵ drop ! $ suffices ! _ (ends-at 𝓤 H A own stayed (clauses 𝓤) W ((κs, qs, tt, (z, a), (valC z ∷ [], vss)), tt) (valR r) r (tt, (k .still₀) κs a) (tt, fits-all (k .ss₀) κs a ((k .still₀) κs a))) $
+          says ! (joined (stepOf z ((k .e₀) κs a)) r c b d p) $ nothing ! $ frame ! $ use0 W (‵ (hasOf κs (k .ss₀) (all yes (k .ss₀)) (dropped (k .ss₀)) a ((k .still₀) κs a) vss)) (has-all 𝓤 H A W (k .ss₀) κs a ((k .still₀) κs a) vss) $ nothing ! $ fjoin ! $
           owned ! S.the-row (Is S.the-row) (LL.makes S.the-type S′.the-plain 𝓤 H A) r _ is $ move ! (1 ∷ 0 ∷ []) $ done !
 
       -- lent at place l for ν under δ, the parameters passed on as b at the values us
-      module _ (l ν : ℕ) (δ : GName) (b : Denots (typesAt ss (ν ∷ [], tt))) (us : Valss (typesAt ss (ν ∷ [], tt))) (same : e (ν ∷ [], tt) b ≡ e₀ κs a) where
+      module _ (l ν : ℕ) (δ : GName) (b : Denots (typesAt (k .ss) (ν ∷ [], tt))) (us : Valss (typesAt (k .ss) (ν ∷ [], tt))) (same : (k .e) (ν ∷ [], tt) b ≡ (k .e₀) κs a) where
         abbrev κr : Lfts 1
         κr = (ν ∷ [], tt)
 
@@ -145,9 +152,9 @@ module _ (ss : List (Slot 1)) (e : (κs : Lfts 1) → Denots (typesAt ss κs) �
         abbrev to-call : CallC .Ghost
         to-call = ((κr, (fullShare, tt), tt, (c₀, b), (vptr l 0 ∷ [], us)), tt)
 
-        asks : ent 𝓤 (emp 𝓤) (sem 𝓤 H A (owns (typesAt ss κr) b us)) → ent 𝓤 (⋆ 𝓤 H A (‵ (flft (ν ∷ []) fullShare) ∷ ‵ Lent ∷ [])) (CallC .pre to-call)
+        asks : ent 𝓤 (emp 𝓤) (sem 𝓤 H A (owns (typesAt (k .ss) κr) b us)) → ent 𝓤 (⋆ 𝓤 H A (‵ (flft (ν ∷ []) fullShare) ∷ ‵ Lent ∷ [])) (CallC .pre to-call)
         asks made =
-            qed W (‵ (flft (ν ∷ []) fullShare) ∷ ‵ Lent ∷ []) ∵ use0 W (‵ (owns (typesAt ss κr) b us)) made $ move ! (2 ∷ 0 ∷ []) $ fjoin ! $ nothing ! $ move ! (2 ∷ 0 ∷ []) $ join ! $ join ! $ frame ! $ done !
+            qed W (‵ (flft (ν ∷ []) fullShare) ∷ ‵ Lent ∷ []) ∵ use0 W (‵ (owns (typesAt (k .ss) κr) b us)) made $ move ! (2 ∷ 0 ∷ []) $ fjoin ! $ nothing ! $ move ! (2 ∷ 0 ∷ []) $ join ! $ join ! $ frame ! $ done !
 
         abbrev Zs : Type 0
         Zs = Lasts called κr (c₀, b)
@@ -157,9 +164,9 @@ module _ (ss : List (Slot 1)) (e : (κs : Lfts 1) → Denots (typesAt ss κs) �
 
         gives : (u : Val) → ent 𝓤 (CallC .post to-call u) (H .⇛ (ex 𝓤 (λ (y : Answer × Controller). mean 𝓤 H A (Gave u y))))
         gives u = W .laws .⇛-mono _ _ (exE 𝓤 _ (λ r.
-            qed W ((((‵ (flft (ν ∷ []) fullShare) ⊛ ‵ ftrue) ⊛ ‵ (An.the-row .own r (u ∷ []))) ⊛ raw (ensured 𝓤 H A called (calls.clauses ss e still 𝓤) κr (c₀, b) tt r)) ∷ []) ∵
-            split ! $ move ! (1 ∷ []) $ use1 W (some (λ (zs : Zs). ‵ (lasts called κr (c₀, b) zs) ⊛ raw (fact 𝓤 (Taken z (e κr b) r (zs .0))))) (id⊢ 𝓤 _) $ pick ! (λ zs.
-            split ! $ move ! (1 ∷ []) $ heard ! (Taken z (e κr b) r (zs .0)) (λ d. fsplit ! $ move ! (1 ∷ []) $ drop ! $ move ! (1 ∷ []) $ split ! $ split ! $ move ! (1 ∷ []) $ drop ! $
+            qed W ((((‵ (flft (ν ∷ []) fullShare) ⊛ ‵ ftrue) ⊛ ‵ (An.the-row .own r (u ∷ []))) ⊛ raw (ensured 𝓤 H A called (calls.clauses (k .ss) (k .e) (k .still) 𝓤) κr (c₀, b) tt r)) ∷ []) ∵
+            split ! $ move ! (1 ∷ []) $ use1 W (some (λ (zs : Zs). ‵ (lasts called κr (c₀, b) zs) ⊛ raw (fact 𝓤 (Taken z ((k .e) κr b) r (zs .0))))) (id⊢ 𝓤 _) $ pick ! (λ zs.
+            split ! $ move ! (1 ∷ []) $ heard ! (Taken z ((k .e) κr b) r (zs .0)) (λ d. fsplit ! $ move ! (1 ∷ []) $ drop ! $ move ! (1 ∷ []) $ split ! $ split ! $ move ! (1 ∷ []) $ drop ! $
             show ! (λ (y : Answer × Controller). mean 𝓤 H A (Gave u y)) (r, zs .0) $ frame ! $ frame ! $ says ! (subst (λ (s : Step). Taken z s r (zs .0)) same d) $ done !))))
 
 -- ---- with no parameter, one, or two
@@ -173,46 +180,63 @@ plain₀ P = plain (λ _. row P)
 abbrev plain₁ : {τ : Ty} {D : Type 0} {val : D → Val} → Single τ D val → Slot 1
 plain₁ P = plain (λ _. row P)
 
+abbrev none : Step → Call
+none e = record { ss = []; e = λ _ _. e; still = λ _ _. tt; ss₀ = []; e₀ = λ _ _. e; still₀ = λ _ _. tt }
+
+module _ {τ : Ty} {D : Type 0} {val : D → Val} (P : Single τ D val) (still : (x : D) → Last (P .exit yes) x) where
+  abbrev one : (D → Step) → Call
+  one e = record { ss = plain₁ P ∷ []; e = λ _ a. e (a .0); still = λ _ a. (still (a .0), tt); ss₀ = plain₀ P ∷ []; e₀ = λ _ a. e (a .0); still₀ = λ _ a. (still (a .0), tt) }
+
+  abbrev two : {τ₁ : Ty} {D₁ : Type 0} {val₁ : D₁ → Val} (P₁ : Single τ₁ D₁ val₁) → ((x : D₁) → Last (P₁ .exit yes) x) → (D → D₁ → Step) → Call
+  two P₁ still₁ e = record {
+    ss = plain₁ P ∷ plain₁ P₁ ∷ [];
+    e = λ _ a. e (a .0) (a .1 .0);
+    still = λ _ a. (still (a .0), (still₁ (a .1 .0), tt));
+    ss₀ = plain₀ P ∷ plain₀ P₁ ∷ [];
+    e₀ = λ _ a. e (a .0) (a .1 .0);
+    still₀ = λ _ a. (still (a .0), (still₁ (a .1 .0), tt));
+  }
+
 module _ {M : Type 1} (𝓤 : URA M) (H : Heap 𝓤) (A : Atoms 𝓤) (W : Given 𝓤 H A) (at-mem : Memory → SProp 𝓤) (run : Routine → Fun 𝓤) (𝓣 : Tables 𝓤 H) (known-s : Triple 𝓤 (𝓣 .C #stepped) (SteppedC 𝓤 H A W at-mem run)) (#call : Name) where
   module _ (e : Step) where
-    pub met₀ : Triple 𝓤 (𝓣 .C #call) (CallC [] (λ _ _. e) (λ _ _. tt) [] (λ _ _. e) (λ _ _. tt) 𝓤 H A W) → Meets 𝓤 H A (own [] (λ _ _. e) (λ _ _. tt) [] (λ _ _. e) (λ _ _. tt) .signature) (WpFn 𝓤 H (𝓣 .C) (𝓣 .Λ) (function₀ #call #stepped S′.mir T′.mir An′.mir ρ)) (closing 𝓤 H A (own [] (λ _ _. e) (λ _ _. tt) [] (λ _ _. e) (λ _ _. tt)) (clauses [] (λ _ _. e) (λ _ _. tt) [] (λ _ _. e) (λ _ _. tt) 𝓤))
+    pub met₀ : Triple 𝓤 (𝓣 .C #call) (CallC (none e) 𝓤 H A W) → Meets 𝓤 H A (own (none e) .signature) (WpFn 𝓤 H (𝓣 .C) (𝓣 .Λ) (function₀ #call #stepped S′.mir T′.mir An′.mir ρ)) (closing 𝓤 H A (own (none e)) (clauses (none e) 𝓤))
     met₀ known =
-        walk-meets 𝓤 H A (own [] (λ _ _. e) (λ _ _. tt) [] (λ _ _. e) (λ _ _. tt)) (stayed [] (λ _ _. e) (λ _ _. tt) [] (λ _ _. e) (λ _ _. tt)) W (goes-dropped 𝓤 H A W 0 (plain (λ _. T.the-row)) yes (λ κs x f. refl), tt) (clauses [] (λ _ _. e) (λ _ _. tt) [] (λ _ _. e) (λ _ _. tt) 𝓤) (WpFn 𝓤 H (𝓣 .C) (𝓣 .Λ) (function₀ #call #stepped S′.mir T′.mir An′.mir ρ)) (WpFn-mono 𝓤 H (W .laws) 𝓣 (function₀ #call #stepped S′.mir T′.mir An′.mir ρ))
-        (walked 𝓤 H A (own [] (λ _ _. e) (λ _ _. tt) [] (λ _ _. e) (λ _ _. tt)) (stayed [] (λ _ _. e) (λ _ _. tt) [] (λ _ _. e) (λ _ _. tt)) (clauses [] (λ _ _. e) (λ _ _. tt) [] (λ _ _. e) (λ _ _. tt) 𝓤) (WpFn 𝓤 H (𝓣 .C) (𝓣 .Λ) (function₀ #call #stepped S′.mir T′.mir An′.mir ρ)) (λ κs. (LL.vals T.the-type T′.the-laws, tt)) (λ κs. (LL.tells T.the-type T′.the-laws, tt))
+        walk-meets 𝓤 H A (own (none e)) (stayed (none e)) W (goes-dropped 𝓤 H A W 0 (plain (λ _. T.the-row)) yes (λ κs x f. refl), tt) (clauses (none e) 𝓤) (WpFn 𝓤 H (𝓣 .C) (𝓣 .Λ) (function₀ #call #stepped S′.mir T′.mir An′.mir ρ)) (WpFn-mono 𝓤 H (W .laws) 𝓣 (function₀ #call #stepped S′.mir T′.mir An′.mir ρ))
+        (walked 𝓤 H A (own (none e)) (stayed (none e)) (clauses (none e) 𝓤) (WpFn 𝓤 H (𝓣 .C) (𝓣 .Λ) (function₀ #call #stepped S′.mir T′.mir An′.mir ρ)) (λ κs. (LL.vals T.the-type T′.the-laws, tt)) (λ κs. (LL.tells T.the-type T′.the-laws, tt))
         (λ κs qs bounds x g are. via 𝓤 _ (fst∗ 𝓤 _ (emp 𝓤))
         (walk₀ 𝓤 H A W (of-struct T.the-type T′.the-laws T′.the-plain) (of-struct An.the-type An′.the-laws An′.the-plain) (of-struct S.the-type S′.the-laws S′.the-plain) #call #stepped (x .0)
-        (Done [] (λ _ _. e) (λ _ _. tt) [] (λ _ _. e) (λ _ _. tt) 𝓤 H A W κs qs (x .0) (x .1) tt) stepped (I [] (λ _ _. e) (λ _ _. tt) [] (λ _ _. e) (λ _ _. tt) 𝓤 H A W κs qs (x .0) (x .1) tt) (Post [] (λ _ _. e) (λ _ _. tt) [] (λ _ _. e) (λ _ _. tt) 𝓤 H A W κs qs (x .0) (x .1) tt) (𝓣 .C) (𝓣 .Λ) (fmOf 𝓤 H (W .laws) 𝓣) (are .0)
-        (λ l ν δ. CallC [] (λ _ _. e) (λ _ _. tt) [] (λ _ _. e) (λ _ _. tt) 𝓤 H A W .post (to-call [] (λ _ _. e) (λ _ _. tt) [] (λ _ _. e) (λ _ _. tt) 𝓤 H A W κs qs (x .0) (x .1) tt l ν δ tt tt refl)) (λ l ν δ. gives [] (λ _ _. e) (λ _ _. tt) [] (λ _ _. e) (λ _ _. tt) 𝓤 H A W κs qs (x .0) (x .1) tt l ν δ tt tt refl)
-        (λ c a. SteppedC 𝓤 H A W at-mem run .post (to-stepped 𝓤 H A W at-mem run c a)) (λ c a c-is a-is. via 𝓤 _ (asks-s 𝓤 H A W at-mem run c a c-is a-is) (known-s (to-stepped 𝓤 H A W at-mem run c a))) (gives-s 𝓤 H A W at-mem run) (exits [] (λ _ _. e) (λ _ _. tt) [] (λ _ _. e) (λ _ _. tt) 𝓤 H A W κs qs (x .0) (x .1) tt)
-        (λ l ν δ. via 𝓤 _ (asks [] (λ _ _. e) (λ _ _. tt) [] (λ _ _. e) (λ _ _. tt) 𝓤 H A W κs qs (x .0) (x .1) tt l ν δ tt tt refl (id⊢ 𝓤 (emp 𝓤))) (known (to-call [] (λ _ _. e) (λ _ _. tt) [] (λ _ _. e) (λ _ _. tt) 𝓤 H A W κs qs (x .0) (x .1) tt l ν δ tt tt refl))))))
+        (Done (none e) 𝓤 H A W κs qs (x .0) (x .1) tt) stepped (I (none e) 𝓤 H A W κs qs (x .0) (x .1) tt) (Post (none e) 𝓤 H A W κs qs (x .0) (x .1) tt) (𝓣 .C) (𝓣 .Λ) (fmOf 𝓤 H (W .laws) 𝓣) (are .0)
+        (λ l ν δ. CallC (none e) 𝓤 H A W .post (to-call (none e) 𝓤 H A W κs qs (x .0) (x .1) tt l ν δ tt tt refl)) (λ l ν δ. gives (none e) 𝓤 H A W κs qs (x .0) (x .1) tt l ν δ tt tt refl)
+        (λ c a. SteppedC 𝓤 H A W at-mem run .post (to-stepped 𝓤 H A W at-mem run c a)) (λ c a c-is a-is. via 𝓤 _ (asks-s 𝓤 H A W at-mem run c a c-is a-is) (known-s (to-stepped 𝓤 H A W at-mem run c a))) (gives-s 𝓤 H A W at-mem run) (exits (none e) 𝓤 H A W κs qs (x .0) (x .1) tt)
+        (λ l ν δ. via 𝓤 _ (asks (none e) 𝓤 H A W κs qs (x .0) (x .1) tt l ν δ tt tt refl (id⊢ 𝓤 (emp 𝓤))) (known (to-call (none e) 𝓤 H A W κs qs (x .0) (x .1) tt l ν δ tt tt refl))))))
 
   module _ {τ : Ty} {D : Type 0} {val : D → Val} (P : Single τ D val) (quiet : (x : D) (f : Last (P .exit yes) x) → left (P .exit yes) x f ≡ ftrue) (still : (x : D) → Last (P .exit yes) x) (e : D → Step) where
     made₁ : (x : D) → Is (row P) x (val x ∷ []) → ent 𝓤 (emp 𝓤) (sem 𝓤 H A (fsep (P .own x (val x ∷ [])) ftrue))
     made₁ x is = qed W [] ∵ nothing ! $ owned ! (row P) (Is (row P)) (P .makes 𝓤 H A W) x _ is $ fjoin ! $ done !
 
-    pub met₁ : Triple 𝓤 (𝓣 .C #call) (CallC (plain₁ P ∷ []) (λ _ a. e (a .0)) (λ _ a. (still (a .0), tt)) (plain₀ P ∷ []) (λ _ a. e (a .0)) (λ _ a. (still (a .0), tt)) 𝓤 H A W) → Meets 𝓤 H A (own (plain₁ P ∷ []) (λ _ a. e (a .0)) (λ _ a. (still (a .0), tt)) (plain₀ P ∷ []) (λ _ a. e (a .0)) (λ _ a. (still (a .0), tt)) .signature) (WpFn 𝓤 H (𝓣 .C) (𝓣 .Λ) (function₁ #call #stepped S′.mir T′.mir An′.mir ρ τ)) (closing 𝓤 H A (own (plain₁ P ∷ []) (λ _ a. e (a .0)) (λ _ a. (still (a .0), tt)) (plain₀ P ∷ []) (λ _ a. e (a .0)) (λ _ a. (still (a .0), tt))) (clauses (plain₁ P ∷ []) (λ _ a. e (a .0)) (λ _ a. (still (a .0), tt)) (plain₀ P ∷ []) (λ _ a. e (a .0)) (λ _ a. (still (a .0), tt)) 𝓤))
+    pub met₁ : Triple 𝓤 (𝓣 .C #call) (CallC (one P still e) 𝓤 H A W) → Meets 𝓤 H A (own (one P still e) .signature) (WpFn 𝓤 H (𝓣 .C) (𝓣 .Λ) (function₁ #call #stepped S′.mir T′.mir An′.mir ρ τ)) (closing 𝓤 H A (own (one P still e)) (clauses (one P still e) 𝓤))
     met₁ known =
-        walk-meets 𝓤 H A (own (plain₁ P ∷ []) (λ _ a. e (a .0)) (λ _ a. (still (a .0), tt)) (plain₀ P ∷ []) (λ _ a. e (a .0)) (λ _ a. (still (a .0), tt))) (stayed (plain₁ P ∷ []) (λ _ a. e (a .0)) (λ _ a. (still (a .0), tt)) (plain₀ P ∷ []) (λ _ a. e (a .0)) (λ _ a. (still (a .0), tt))) W (goes-dropped 𝓤 H A W 0 (plain (λ _. T.the-row)) yes (λ κs x f. refl), (goes-dropped 𝓤 H A W 0 (plain₀ P) yes (λ _. quiet), tt)) (clauses (plain₁ P ∷ []) (λ _ a. e (a .0)) (λ _ a. (still (a .0), tt)) (plain₀ P ∷ []) (λ _ a. e (a .0)) (λ _ a. (still (a .0), tt)) 𝓤) (WpFn 𝓤 H (𝓣 .C) (𝓣 .Λ) (function₁ #call #stepped S′.mir T′.mir An′.mir ρ τ)) (WpFn-mono 𝓤 H (W .laws) 𝓣 (function₁ #call #stepped S′.mir T′.mir An′.mir ρ τ))
-        (walked 𝓤 H A (own (plain₁ P ∷ []) (λ _ a. e (a .0)) (λ _ a. (still (a .0), tt)) (plain₀ P ∷ []) (λ _ a. e (a .0)) (λ _ a. (still (a .0), tt))) (stayed (plain₁ P ∷ []) (λ _ a. e (a .0)) (λ _ a. (still (a .0), tt)) (plain₀ P ∷ []) (λ _ a. e (a .0)) (λ _ a. (still (a .0), tt))) (clauses (plain₁ P ∷ []) (λ _ a. e (a .0)) (λ _ a. (still (a .0), tt)) (plain₀ P ∷ []) (λ _ a. e (a .0)) (λ _ a. (still (a .0), tt)) 𝓤) (WpFn 𝓤 H (𝓣 .C) (𝓣 .Λ) (function₁ #call #stepped S′.mir T′.mir An′.mir ρ τ)) (λ κs. (LL.vals T.the-type T′.the-laws, ((λ x. val x ∷ []), tt))) (λ κs. (LL.tells T.the-type T′.the-laws, (P .tells, tt)))
+        walk-meets 𝓤 H A (own (one P still e)) (stayed (one P still e)) W (goes-dropped 𝓤 H A W 0 (plain (λ _. T.the-row)) yes (λ κs x f. refl), (goes-dropped 𝓤 H A W 0 (plain₀ P) yes (λ _. quiet), tt)) (clauses (one P still e) 𝓤) (WpFn 𝓤 H (𝓣 .C) (𝓣 .Λ) (function₁ #call #stepped S′.mir T′.mir An′.mir ρ τ)) (WpFn-mono 𝓤 H (W .laws) 𝓣 (function₁ #call #stepped S′.mir T′.mir An′.mir ρ τ))
+        (walked 𝓤 H A (own (one P still e)) (stayed (one P still e)) (clauses (one P still e) 𝓤) (WpFn 𝓤 H (𝓣 .C) (𝓣 .Λ) (function₁ #call #stepped S′.mir T′.mir An′.mir ρ τ)) (λ κs. (LL.vals T.the-type T′.the-laws, ((λ x. val x ∷ []), tt))) (λ κs. (LL.tells T.the-type T′.the-laws, (P .tells, tt)))
         (λ κs qs bounds x g are. via 𝓤 _ (fst∗ 𝓤 _ (emp 𝓤))
         (walk₁ 𝓤 H A W (of-struct T.the-type T′.the-laws T′.the-plain) (of-struct An.the-type An′.the-laws An′.the-plain) (of-struct S.the-type S′.the-laws S′.the-plain) #call #stepped (x .0)
-        (Done (plain₁ P ∷ []) (λ _ a. e (a .0)) (λ _ a. (still (a .0), tt)) (plain₀ P ∷ []) (λ _ a. e (a .0)) (λ _ a. (still (a .0), tt)) 𝓤 H A W κs qs (x .0) (x .1) (val (x .1 .0) ∷ [], tt)) stepped (I (plain₁ P ∷ []) (λ _ a. e (a .0)) (λ _ a. (still (a .0), tt)) (plain₀ P ∷ []) (λ _ a. e (a .0)) (λ _ a. (still (a .0), tt)) 𝓤 H A W κs qs (x .0) (x .1) (val (x .1 .0) ∷ [], tt)) (Post (plain₁ P ∷ []) (λ _ a. e (a .0)) (λ _ a. (still (a .0), tt)) (plain₀ P ∷ []) (λ _ a. e (a .0)) (λ _ a. (still (a .0), tt)) 𝓤 H A W κs qs (x .0) (x .1) (val (x .1 .0) ∷ [], tt)) (𝓣 .C) (𝓣 .Λ) (fmOf 𝓤 H (W .laws) 𝓣) (are .0)
-        (λ l ν δ. CallC (plain₁ P ∷ []) (λ _ a. e (a .0)) (λ _ a. (still (a .0), tt)) (plain₀ P ∷ []) (λ _ a. e (a .0)) (λ _ a. (still (a .0), tt)) 𝓤 H A W .post (to-call (plain₁ P ∷ []) (λ _ a. e (a .0)) (λ _ a. (still (a .0), tt)) (plain₀ P ∷ []) (λ _ a. e (a .0)) (λ _ a. (still (a .0), tt)) 𝓤 H A W κs qs (x .0) (x .1) (val (x .1 .0) ∷ [], tt) l ν δ (x .1 .0, tt) (val (x .1 .0) ∷ [], tt) refl)) (λ l ν δ. gives (plain₁ P ∷ []) (λ _ a. e (a .0)) (λ _ a. (still (a .0), tt)) (plain₀ P ∷ []) (λ _ a. e (a .0)) (λ _ a. (still (a .0), tt)) 𝓤 H A W κs qs (x .0) (x .1) (val (x .1 .0) ∷ [], tt) l ν δ (x .1 .0, tt) (val (x .1 .0) ∷ [], tt) refl)
-        (λ c a. SteppedC 𝓤 H A W at-mem run .post (to-stepped 𝓤 H A W at-mem run c a)) (λ c a c-is a-is. via 𝓤 _ (asks-s 𝓤 H A W at-mem run c a c-is a-is) (known-s (to-stepped 𝓤 H A W at-mem run c a))) (gives-s 𝓤 H A W at-mem run) (exits (plain₁ P ∷ []) (λ _ a. e (a .0)) (λ _ a. (still (a .0), tt)) (plain₀ P ∷ []) (λ _ a. e (a .0)) (λ _ a. (still (a .0), tt)) 𝓤 H A W κs qs (x .0) (x .1) (val (x .1 .0) ∷ [], tt))
-        τ (val (x .1 .0)) (P .typed 𝓤 H A W (x .1 .0) _ (are .1 .0)) (λ l ν δ. via 𝓤 _ (asks (plain₁ P ∷ []) (λ _ a. e (a .0)) (λ _ a. (still (a .0), tt)) (plain₀ P ∷ []) (λ _ a. e (a .0)) (λ _ a. (still (a .0), tt)) 𝓤 H A W κs qs (x .0) (x .1) (val (x .1 .0) ∷ [], tt) l ν δ (x .1 .0, tt) (val (x .1 .0) ∷ [], tt) refl (made₁ (x .1 .0) (are .1 .0))) (known (to-call (plain₁ P ∷ []) (λ _ a. e (a .0)) (λ _ a. (still (a .0), tt)) (plain₀ P ∷ []) (λ _ a. e (a .0)) (λ _ a. (still (a .0), tt)) 𝓤 H A W κs qs (x .0) (x .1) (val (x .1 .0) ∷ [], tt) l ν δ (x .1 .0, tt) (val (x .1 .0) ∷ [], tt) refl))))))
+        (Done (one P still e) 𝓤 H A W κs qs (x .0) (x .1) (val (x .1 .0) ∷ [], tt)) stepped (I (one P still e) 𝓤 H A W κs qs (x .0) (x .1) (val (x .1 .0) ∷ [], tt)) (Post (one P still e) 𝓤 H A W κs qs (x .0) (x .1) (val (x .1 .0) ∷ [], tt)) (𝓣 .C) (𝓣 .Λ) (fmOf 𝓤 H (W .laws) 𝓣) (are .0)
+        (λ l ν δ. CallC (one P still e) 𝓤 H A W .post (to-call (one P still e) 𝓤 H A W κs qs (x .0) (x .1) (val (x .1 .0) ∷ [], tt) l ν δ (x .1 .0, tt) (val (x .1 .0) ∷ [], tt) refl)) (λ l ν δ. gives (one P still e) 𝓤 H A W κs qs (x .0) (x .1) (val (x .1 .0) ∷ [], tt) l ν δ (x .1 .0, tt) (val (x .1 .0) ∷ [], tt) refl)
+        (λ c a. SteppedC 𝓤 H A W at-mem run .post (to-stepped 𝓤 H A W at-mem run c a)) (λ c a c-is a-is. via 𝓤 _ (asks-s 𝓤 H A W at-mem run c a c-is a-is) (known-s (to-stepped 𝓤 H A W at-mem run c a))) (gives-s 𝓤 H A W at-mem run) (exits (one P still e) 𝓤 H A W κs qs (x .0) (x .1) (val (x .1 .0) ∷ [], tt))
+        τ (val (x .1 .0)) (P .typed 𝓤 H A W (x .1 .0) _ (are .1 .0)) (λ l ν δ. via 𝓤 _ (asks (one P still e) 𝓤 H A W κs qs (x .0) (x .1) (val (x .1 .0) ∷ [], tt) l ν δ (x .1 .0, tt) (val (x .1 .0) ∷ [], tt) refl (made₁ (x .1 .0) (are .1 .0))) (known (to-call (one P still e) 𝓤 H A W κs qs (x .0) (x .1) (val (x .1 .0) ∷ [], tt) l ν δ (x .1 .0, tt) (val (x .1 .0) ∷ [], tt) refl))))))
 
   module _ {τ : Ty} {D : Type 0} {val : D → Val} (P : Single τ D val) (quiet : (x : D) (f : Last (P .exit yes) x) → left (P .exit yes) x f ≡ ftrue) (still : (x : D) → Last (P .exit yes) x)
       {τ₁ : Ty} {D₁ : Type 0} {val₁ : D₁ → Val} (P₁ : Single τ₁ D₁ val₁) (quiet₁ : (x : D₁) (f : Last (P₁ .exit yes) x) → left (P₁ .exit yes) x f ≡ ftrue) (still₁ : (x : D₁) → Last (P₁ .exit yes) x) (e : D → D₁ → Step) where
     made₂ : (x : D) (y : D₁) → Is (row P) x (val x ∷ []) → Is (row P₁) y (val₁ y ∷ []) → ent 𝓤 (emp 𝓤) (sem 𝓤 H A (fsep (P .own x (val x ∷ [])) (fsep (P₁ .own y (val₁ y ∷ [])) ftrue)))
     made₂ x y is js = qed W [] ∵ nothing ! $ owned ! (row P₁) (Is (row P₁)) (P₁ .makes 𝓤 H A W) y _ js $ fjoin ! $ owned ! (row P) (Is (row P)) (P .makes 𝓤 H A W) x _ is $ fjoin ! $ done !
 
-    pub met₂ : Triple 𝓤 (𝓣 .C #call) (CallC (plain₁ P ∷ plain₁ P₁ ∷ []) (λ _ a. e (a .0) (a .1 .0)) (λ _ a. (still (a .0), (still₁ (a .1 .0), tt))) (plain₀ P ∷ plain₀ P₁ ∷ []) (λ _ a. e (a .0) (a .1 .0)) (λ _ a. (still (a .0), (still₁ (a .1 .0), tt))) 𝓤 H A W) → Meets 𝓤 H A (own (plain₁ P ∷ plain₁ P₁ ∷ []) (λ _ a. e (a .0) (a .1 .0)) (λ _ a. (still (a .0), (still₁ (a .1 .0), tt))) (plain₀ P ∷ plain₀ P₁ ∷ []) (λ _ a. e (a .0) (a .1 .0)) (λ _ a. (still (a .0), (still₁ (a .1 .0), tt))) .signature) (WpFn 𝓤 H (𝓣 .C) (𝓣 .Λ) (function₂ #call #stepped S′.mir T′.mir An′.mir ρ τ τ₁)) (closing 𝓤 H A (own (plain₁ P ∷ plain₁ P₁ ∷ []) (λ _ a. e (a .0) (a .1 .0)) (λ _ a. (still (a .0), (still₁ (a .1 .0), tt))) (plain₀ P ∷ plain₀ P₁ ∷ []) (λ _ a. e (a .0) (a .1 .0)) (λ _ a. (still (a .0), (still₁ (a .1 .0), tt)))) (clauses (plain₁ P ∷ plain₁ P₁ ∷ []) (λ _ a. e (a .0) (a .1 .0)) (λ _ a. (still (a .0), (still₁ (a .1 .0), tt))) (plain₀ P ∷ plain₀ P₁ ∷ []) (λ _ a. e (a .0) (a .1 .0)) (λ _ a. (still (a .0), (still₁ (a .1 .0), tt))) 𝓤))
+    pub met₂ : Triple 𝓤 (𝓣 .C #call) (CallC (two P still P₁ still₁ e) 𝓤 H A W) → Meets 𝓤 H A (own (two P still P₁ still₁ e) .signature) (WpFn 𝓤 H (𝓣 .C) (𝓣 .Λ) (function₂ #call #stepped S′.mir T′.mir An′.mir ρ τ τ₁)) (closing 𝓤 H A (own (two P still P₁ still₁ e)) (clauses (two P still P₁ still₁ e) 𝓤))
     met₂ known =
-        walk-meets 𝓤 H A (own (plain₁ P ∷ plain₁ P₁ ∷ []) (λ _ a. e (a .0) (a .1 .0)) (λ _ a. (still (a .0), (still₁ (a .1 .0), tt))) (plain₀ P ∷ plain₀ P₁ ∷ []) (λ _ a. e (a .0) (a .1 .0)) (λ _ a. (still (a .0), (still₁ (a .1 .0), tt)))) (stayed (plain₁ P ∷ plain₁ P₁ ∷ []) (λ _ a. e (a .0) (a .1 .0)) (λ _ a. (still (a .0), (still₁ (a .1 .0), tt))) (plain₀ P ∷ plain₀ P₁ ∷ []) (λ _ a. e (a .0) (a .1 .0)) (λ _ a. (still (a .0), (still₁ (a .1 .0), tt)))) W (goes-dropped 𝓤 H A W 0 (plain (λ _. T.the-row)) yes (λ κs x f. refl), (goes-dropped 𝓤 H A W 0 (plain₀ P) yes (λ _. quiet), (goes-dropped 𝓤 H A W 0 (plain₀ P₁) yes (λ _. quiet₁), tt))) (clauses (plain₁ P ∷ plain₁ P₁ ∷ []) (λ _ a. e (a .0) (a .1 .0)) (λ _ a. (still (a .0), (still₁ (a .1 .0), tt))) (plain₀ P ∷ plain₀ P₁ ∷ []) (λ _ a. e (a .0) (a .1 .0)) (λ _ a. (still (a .0), (still₁ (a .1 .0), tt))) 𝓤) (WpFn 𝓤 H (𝓣 .C) (𝓣 .Λ) (function₂ #call #stepped S′.mir T′.mir An′.mir ρ τ τ₁)) (WpFn-mono 𝓤 H (W .laws) 𝓣 (function₂ #call #stepped S′.mir T′.mir An′.mir ρ τ τ₁))
-        (walked 𝓤 H A (own (plain₁ P ∷ plain₁ P₁ ∷ []) (λ _ a. e (a .0) (a .1 .0)) (λ _ a. (still (a .0), (still₁ (a .1 .0), tt))) (plain₀ P ∷ plain₀ P₁ ∷ []) (λ _ a. e (a .0) (a .1 .0)) (λ _ a. (still (a .0), (still₁ (a .1 .0), tt)))) (stayed (plain₁ P ∷ plain₁ P₁ ∷ []) (λ _ a. e (a .0) (a .1 .0)) (λ _ a. (still (a .0), (still₁ (a .1 .0), tt))) (plain₀ P ∷ plain₀ P₁ ∷ []) (λ _ a. e (a .0) (a .1 .0)) (λ _ a. (still (a .0), (still₁ (a .1 .0), tt)))) (clauses (plain₁ P ∷ plain₁ P₁ ∷ []) (λ _ a. e (a .0) (a .1 .0)) (λ _ a. (still (a .0), (still₁ (a .1 .0), tt))) (plain₀ P ∷ plain₀ P₁ ∷ []) (λ _ a. e (a .0) (a .1 .0)) (λ _ a. (still (a .0), (still₁ (a .1 .0), tt))) 𝓤) (WpFn 𝓤 H (𝓣 .C) (𝓣 .Λ) (function₂ #call #stepped S′.mir T′.mir An′.mir ρ τ τ₁)) (λ κs. (LL.vals T.the-type T′.the-laws, ((λ x. val x ∷ []), ((λ x. val₁ x ∷ []), tt)))) (λ κs. (LL.tells T.the-type T′.the-laws, (P .tells, (P₁ .tells, tt))))
+        walk-meets 𝓤 H A (own (two P still P₁ still₁ e)) (stayed (two P still P₁ still₁ e)) W (goes-dropped 𝓤 H A W 0 (plain (λ _. T.the-row)) yes (λ κs x f. refl), (goes-dropped 𝓤 H A W 0 (plain₀ P) yes (λ _. quiet), (goes-dropped 𝓤 H A W 0 (plain₀ P₁) yes (λ _. quiet₁), tt))) (clauses (two P still P₁ still₁ e) 𝓤) (WpFn 𝓤 H (𝓣 .C) (𝓣 .Λ) (function₂ #call #stepped S′.mir T′.mir An′.mir ρ τ τ₁)) (WpFn-mono 𝓤 H (W .laws) 𝓣 (function₂ #call #stepped S′.mir T′.mir An′.mir ρ τ τ₁))
+        (walked 𝓤 H A (own (two P still P₁ still₁ e)) (stayed (two P still P₁ still₁ e)) (clauses (two P still P₁ still₁ e) 𝓤) (WpFn 𝓤 H (𝓣 .C) (𝓣 .Λ) (function₂ #call #stepped S′.mir T′.mir An′.mir ρ τ τ₁)) (λ κs. (LL.vals T.the-type T′.the-laws, ((λ x. val x ∷ []), ((λ x. val₁ x ∷ []), tt)))) (λ κs. (LL.tells T.the-type T′.the-laws, (P .tells, (P₁ .tells, tt))))
         (λ κs qs bounds x g are. via 𝓤 _ (fst∗ 𝓤 _ (emp 𝓤))
         (walk₂ 𝓤 H A W (of-struct T.the-type T′.the-laws T′.the-plain) (of-struct An.the-type An′.the-laws An′.the-plain) (of-struct S.the-type S′.the-laws S′.the-plain) #call #stepped (x .0)
-        (Done (plain₁ P ∷ plain₁ P₁ ∷ []) (λ _ a. e (a .0) (a .1 .0)) (λ _ a. (still (a .0), (still₁ (a .1 .0), tt))) (plain₀ P ∷ plain₀ P₁ ∷ []) (λ _ a. e (a .0) (a .1 .0)) (λ _ a. (still (a .0), (still₁ (a .1 .0), tt))) 𝓤 H A W κs qs (x .0) (x .1) (val (x .1 .0) ∷ [], (val₁ (x .1 .1 .0) ∷ [], tt))) stepped (I (plain₁ P ∷ plain₁ P₁ ∷ []) (λ _ a. e (a .0) (a .1 .0)) (λ _ a. (still (a .0), (still₁ (a .1 .0), tt))) (plain₀ P ∷ plain₀ P₁ ∷ []) (λ _ a. e (a .0) (a .1 .0)) (λ _ a. (still (a .0), (still₁ (a .1 .0), tt))) 𝓤 H A W κs qs (x .0) (x .1) (val (x .1 .0) ∷ [], (val₁ (x .1 .1 .0) ∷ [], tt))) (Post (plain₁ P ∷ plain₁ P₁ ∷ []) (λ _ a. e (a .0) (a .1 .0)) (λ _ a. (still (a .0), (still₁ (a .1 .0), tt))) (plain₀ P ∷ plain₀ P₁ ∷ []) (λ _ a. e (a .0) (a .1 .0)) (λ _ a. (still (a .0), (still₁ (a .1 .0), tt))) 𝓤 H A W κs qs (x .0) (x .1) (val (x .1 .0) ∷ [], (val₁ (x .1 .1 .0) ∷ [], tt))) (𝓣 .C) (𝓣 .Λ) (fmOf 𝓤 H (W .laws) 𝓣) (are .0)
-        (λ l ν δ. CallC (plain₁ P ∷ plain₁ P₁ ∷ []) (λ _ a. e (a .0) (a .1 .0)) (λ _ a. (still (a .0), (still₁ (a .1 .0), tt))) (plain₀ P ∷ plain₀ P₁ ∷ []) (λ _ a. e (a .0) (a .1 .0)) (λ _ a. (still (a .0), (still₁ (a .1 .0), tt))) 𝓤 H A W .post (to-call (plain₁ P ∷ plain₁ P₁ ∷ []) (λ _ a. e (a .0) (a .1 .0)) (λ _ a. (still (a .0), (still₁ (a .1 .0), tt))) (plain₀ P ∷ plain₀ P₁ ∷ []) (λ _ a. e (a .0) (a .1 .0)) (λ _ a. (still (a .0), (still₁ (a .1 .0), tt))) 𝓤 H A W κs qs (x .0) (x .1) (val (x .1 .0) ∷ [], (val₁ (x .1 .1 .0) ∷ [], tt)) l ν δ (x .1 .0, (x .1 .1 .0, tt)) (val (x .1 .0) ∷ [], (val₁ (x .1 .1 .0) ∷ [], tt)) refl)) (λ l ν δ. gives (plain₁ P ∷ plain₁ P₁ ∷ []) (λ _ a. e (a .0) (a .1 .0)) (λ _ a. (still (a .0), (still₁ (a .1 .0), tt))) (plain₀ P ∷ plain₀ P₁ ∷ []) (λ _ a. e (a .0) (a .1 .0)) (λ _ a. (still (a .0), (still₁ (a .1 .0), tt))) 𝓤 H A W κs qs (x .0) (x .1) (val (x .1 .0) ∷ [], (val₁ (x .1 .1 .0) ∷ [], tt)) l ν δ (x .1 .0, (x .1 .1 .0, tt)) (val (x .1 .0) ∷ [], (val₁ (x .1 .1 .0) ∷ [], tt)) refl)
-        (λ c a. SteppedC 𝓤 H A W at-mem run .post (to-stepped 𝓤 H A W at-mem run c a)) (λ c a c-is a-is. via 𝓤 _ (asks-s 𝓤 H A W at-mem run c a c-is a-is) (known-s (to-stepped 𝓤 H A W at-mem run c a))) (gives-s 𝓤 H A W at-mem run) (exits (plain₁ P ∷ plain₁ P₁ ∷ []) (λ _ a. e (a .0) (a .1 .0)) (λ _ a. (still (a .0), (still₁ (a .1 .0), tt))) (plain₀ P ∷ plain₀ P₁ ∷ []) (λ _ a. e (a .0) (a .1 .0)) (λ _ a. (still (a .0), (still₁ (a .1 .0), tt))) 𝓤 H A W κs qs (x .0) (x .1) (val (x .1 .0) ∷ [], (val₁ (x .1 .1 .0) ∷ [], tt)))
-        τ τ₁ (val (x .1 .0)) (val₁ (x .1 .1 .0)) (P .typed 𝓤 H A W (x .1 .0) _ (are .1 .0)) (P₁ .typed 𝓤 H A W (x .1 .1 .0) _ (are .1 .1 .0)) (λ l ν δ. via 𝓤 _ (asks (plain₁ P ∷ plain₁ P₁ ∷ []) (λ _ a. e (a .0) (a .1 .0)) (λ _ a. (still (a .0), (still₁ (a .1 .0), tt))) (plain₀ P ∷ plain₀ P₁ ∷ []) (λ _ a. e (a .0) (a .1 .0)) (λ _ a. (still (a .0), (still₁ (a .1 .0), tt))) 𝓤 H A W κs qs (x .0) (x .1) (val (x .1 .0) ∷ [], (val₁ (x .1 .1 .0) ∷ [], tt)) l ν δ (x .1 .0, (x .1 .1 .0, tt)) (val (x .1 .0) ∷ [], (val₁ (x .1 .1 .0) ∷ [], tt)) refl (made₂ (x .1 .0) (x .1 .1 .0) (are .1 .0) (are .1 .1 .0))) (known (to-call (plain₁ P ∷ plain₁ P₁ ∷ []) (λ _ a. e (a .0) (a .1 .0)) (λ _ a. (still (a .0), (still₁ (a .1 .0), tt))) (plain₀ P ∷ plain₀ P₁ ∷ []) (λ _ a. e (a .0) (a .1 .0)) (λ _ a. (still (a .0), (still₁ (a .1 .0), tt))) 𝓤 H A W κs qs (x .0) (x .1) (val (x .1 .0) ∷ [], (val₁ (x .1 .1 .0) ∷ [], tt)) l ν δ (x .1 .0, (x .1 .1 .0, tt)) (val (x .1 .0) ∷ [], (val₁ (x .1 .1 .0) ∷ [], tt)) refl))))))
+        (Done (two P still P₁ still₁ e) 𝓤 H A W κs qs (x .0) (x .1) (val (x .1 .0) ∷ [], (val₁ (x .1 .1 .0) ∷ [], tt))) stepped (I (two P still P₁ still₁ e) 𝓤 H A W κs qs (x .0) (x .1) (val (x .1 .0) ∷ [], (val₁ (x .1 .1 .0) ∷ [], tt))) (Post (two P still P₁ still₁ e) 𝓤 H A W κs qs (x .0) (x .1) (val (x .1 .0) ∷ [], (val₁ (x .1 .1 .0) ∷ [], tt))) (𝓣 .C) (𝓣 .Λ) (fmOf 𝓤 H (W .laws) 𝓣) (are .0)
+        (λ l ν δ. CallC (two P still P₁ still₁ e) 𝓤 H A W .post (to-call (two P still P₁ still₁ e) 𝓤 H A W κs qs (x .0) (x .1) (val (x .1 .0) ∷ [], (val₁ (x .1 .1 .0) ∷ [], tt)) l ν δ (x .1 .0, (x .1 .1 .0, tt)) (val (x .1 .0) ∷ [], (val₁ (x .1 .1 .0) ∷ [], tt)) refl)) (λ l ν δ. gives (two P still P₁ still₁ e) 𝓤 H A W κs qs (x .0) (x .1) (val (x .1 .0) ∷ [], (val₁ (x .1 .1 .0) ∷ [], tt)) l ν δ (x .1 .0, (x .1 .1 .0, tt)) (val (x .1 .0) ∷ [], (val₁ (x .1 .1 .0) ∷ [], tt)) refl)
+        (λ c a. SteppedC 𝓤 H A W at-mem run .post (to-stepped 𝓤 H A W at-mem run c a)) (λ c a c-is a-is. via 𝓤 _ (asks-s 𝓤 H A W at-mem run c a c-is a-is) (known-s (to-stepped 𝓤 H A W at-mem run c a))) (gives-s 𝓤 H A W at-mem run) (exits (two P still P₁ still₁ e) 𝓤 H A W κs qs (x .0) (x .1) (val (x .1 .0) ∷ [], (val₁ (x .1 .1 .0) ∷ [], tt)))
+        τ τ₁ (val (x .1 .0)) (val₁ (x .1 .1 .0)) (P .typed 𝓤 H A W (x .1 .0) _ (are .1 .0)) (P₁ .typed 𝓤 H A W (x .1 .1 .0) _ (are .1 .1 .0)) (λ l ν δ. via 𝓤 _ (asks (two P still P₁ still₁ e) 𝓤 H A W κs qs (x .0) (x .1) (val (x .1 .0) ∷ [], (val₁ (x .1 .1 .0) ∷ [], tt)) l ν δ (x .1 .0, (x .1 .1 .0, tt)) (val (x .1 .0) ∷ [], (val₁ (x .1 .1 .0) ∷ [], tt)) refl (made₂ (x .1 .0) (x .1 .1 .0) (are .1 .0) (are .1 .1 .0))) (known (to-call (two P still P₁ still₁ e) 𝓤 H A W κs qs (x .0) (x .1) (val (x .1 .0) ∷ [], (val₁ (x .1 .1 .0) ∷ [], tt)) l ν δ (x .1 .0, (x .1 .1 .0, tt)) (val (x .1 .0) ∷ [], (val₁ (x .1 .1 .0) ∷ [], tt)) refl))))))

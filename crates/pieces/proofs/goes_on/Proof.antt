@@ -1,0 +1,11 @@
+use Rattle.pieces.proofs.goes_on.Statement.{statement}
+use Rattle.pieces.proofs.goes_on.Tie as tie
+
+returns : tie.Need-returns
+returns c = simp (c .if1 .taken)
+
+returns-2 : tie.Need-returns-2
+returns-2 c = simp (c .if1 .left)
+
+pub goes-on-spec : {M : Type 1} → statement M
+goes-on-spec = tie.close (tie.spec returns returns-2)
