@@ -42,10 +42,7 @@ pub fn begun(z: Controller) -> Position
 fn goes_on(last: bool, ended: bool, code: u8) -> bool
     ensures { λ r. ⌜ r ≡ turns.goes last ended code ⌝ }
 {
-    if last {
-        return false;
-    }
-    ended | (code == 6)
+    !last & (ended | (code == 6))
 }
 
 // How many bytes of replies are sent: where the replay goes on, the reply to the record at which it stopped is held back.
