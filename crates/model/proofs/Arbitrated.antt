@@ -1,5 +1,5 @@
 -- The first in priority goes on the wire; the last in priority is the one that no pending mailbox comes behind.
-use mathlib.Core.Bool.{Bool, true, false, not, _&&_, _||_, Bool·beq, true≢false, false≢true}
+use mathlib.Core.Bool.{Bool, true, false, not, _&&_, _||_, Bool·beq, true≢false, false≢true, and-true}
 use mathlib.Core.List.{[], _∷_}
 use mathlib.Core.Path.{_≡_, refl, sym, ap, ap₂, subst, _∙_}
 use Prim.Native.Nat.{ℕ, _+_, _*_, _<_, _≤_}
@@ -8,14 +8,13 @@ use lib.Dec.{eqb, ltb}
 use borrow.Author.Tests.{eqb-false, ltb-true, ltb-false, lt-ltb}
 use Rattle.model.specs.Base.{pick, bit}
 use Rattle.model.specs.Queue.{number, same, holds, without, oldest, newest, isFrom, isNobody, isEmpty, besides, orderNumbers, senderNumbers}
-use Rattle.model.specs.Mailboxes.{at, identifiers, identifier, wireKey, key, before, sooner, later, firstInWireOrder, lastInWireOrder, first, last, lastOf, started, tiWord}
+use Rattle.model.specs.Mailboxes.{at, identifiers, identifier, wireKey, key, before, sooner, later, firstInWireOrder, lastInWireOrder, first, last, lastOf, started}
 use Rattle.model.specs.Control.{txfp}
-use Rattle.model.specs.Registers.{readWord}
 use Rattle.model.specs.Step.{step, settled}
 use Rattle.model.specs.Reachable.{distinct, carried}
 use Rattle.model.specs.ReadBack.{has}
+use Rattle.model.specs.Shown.{ti}
 use Rattle.model.specs.Arbitration.{isPending, earlier, goesBefore, precedes, IsFirst, IsLast, StartsFirst}
-use Rattle.model.specs.Codes.{reads}
 use Rattle.model.specs.declared.Mailbox.{Mailbox}
 use Rattle.model.specs.declared.Mailbox.the-variants.{M0, M1, M2}
 use Rattle.model.specs.declared.Sender.{Sender}
@@ -25,13 +24,13 @@ use Rattle.model.specs.declared.RequestOrder.the-variants.{Empty, One, T
 use Rattle.model.specs.declared.Identifiers.{Identifiers}
 use Rattle.model.specs.declared.Core.{Core}
 use Rattle.model.specs.declared.Controller.{Controller}
-use Rattle.model.specs.declared.Register.the-variants.{Mcr, Ti}
 use Rattle.model.specs.declared.Step.the-variants.{Start}
 use Rattle.model.proofs.Choices.{Is, imp, imp-Is, not-Is, Is-not, and-l, beq-eq, opposed, pick-cases}
 use Rattle.model.proofs.Orders.{mailboxes, orders, each-mailbox, each-order, each, same-eq, same-comm}
-use Rattle.model.proofs.Follows.{first-carried}
-use Rattle.model.proofs.RegisterAccess.{read-word, Somebody, start-accepted}
+use Rattle.model.proofs.Follows.{first-carried, from-eq}
+use Rattle.model.proofs.RegisterAccess.{Somebody, start-accepted}
 use Rattle.model.proofs.WireBits.{goes-key, without-txrq, number-small}
+use Rattle.model.proofs.ShownWords.{mcr-shown, ti-shown}
 
 -- ---- computed tests over fewer mailboxes than `each` takes
 
@@ -80,9 +79,6 @@ all-held P (Three a b c) x h p =
     or-else (same a x || same b x) (same c x) h
     (λ k. or-else (same a x) (same b x) k (λ e. subst P (same-eq a x e) (p .0)) (λ e. subst P (same-eq b x e) (p .1)))
     (λ e. subst P (same-eq c x e) (p .2))
-
-from-eq : (a m : Mailbox) → From a ≡ From m → a ≡ m
-from-eq a m e = cc
 
 module _ (i : Identifiers) where
   sooner-low : (a b : Mailbox) → (key i (sooner i a b) ≤ key i a) × (key i (sooner i a b) ≤ key i b)
@@ -198,11 +194,7 @@ earlier-one-way o a b d h k =
     opposed k (Is-not _ (imp-Is (imp-Is (each-two (λ o a b. imp (distinct o) (imp (earlier (orderNumbers o) (number a) (number b)) (not (earlier (orderNumbers o) (number b) (number a))))) refl o a b) d) h))
 
 pub besides-held : (v : Sender) (o : RequestOrder) (m : Mailbox) → distinct o ≡ true → holds (besides v o) m ≡ holds o m && not (isFrom v m)
-besides-held Nobody o m d = and-true (holds o m)
-  where
-    and-true : (b : Bool) → b ≡ b && true
-    and-true true = refl
-    and-true false = refl
+besides-held Nobody o m d = sym (and-true (holds o m))
 besides-held (From y) o m d = beq-eq _ _ (imp-Is (each-two (λ o y m. imp (distinct o) (Bool·beq (holds (without o y) m) (holds o m && not (same y m)))) refl o y m) d)
 
 -- ---- priority as the registers show it
@@ -220,23 +212,21 @@ module _ (z : Controller) where
   abbrev mode : Bool
   mode = txfp (z .core .control)
 
-  pub mcr-read : reads z Mcr ≡ z .core .control .mcr
-  unfolding readWord
-  mcr-read = read-word Mcr z tt refl
+  ti-key : (m : Mailbox) → wireKey (ti m z) ≡ wireKey (identifier words m)
+  ti-key m = ap wireKey (ti-shown m z) ∙ without-txrq (at (z .core .transmit .mailboxes) m .ti) (holds order m) ∙ named m
+    where
+      named : (m : Mailbox) → wireKey (at (z .core .transmit .mailboxes) m .ti) ≡ wireKey (identifier words m)
+      named M0 = refl
+      named M1 = refl
+      named M2 = refl
 
-  ti-key : (m : Mailbox) → wireKey (reads z (Ti m)) ≡ wireKey (identifier words m)
-  unfolding readWord tiWord
-  ti-key M0 = ap wireKey (read-word (Ti M0) z tt refl) ∙ without-txrq (z .core .transmit .mailboxes .m0 .ti) (holds order M0)
-  ti-key M1 = ap wireKey (read-word (Ti M1) z tt refl) ∙ without-txrq (z .core .transmit .mailboxes .m1 .ti) (holds order M1)
-  ti-key M2 = ap wireKey (read-word (Ti M2) z tt refl) ∙ without-txrq (z .core .transmit .mailboxes .m2 .ti) (holds order M2)
-
-  by-bits : (a b : Mailbox) → goesBefore a (reads z (Ti a)) b (reads z (Ti b)) ≡ before words a b
+  by-bits : (a b : Mailbox) → goesBefore a (ti a z) b (ti b z) ≡ before words a b
   unfolding before key
-  by-bits a b = goes-key a b (reads z (Ti a)) (reads z (Ti b)) ∙ ap₂ (λ (x y : ℕ). ltb (x * 4 + number a) (y * 4 + number b)) (ti-key a) (ti-key b)
+  by-bits a b = goes-key a b (ti a z) (ti b z) ∙ ap₂ (λ (x y : ℕ). ltb (x * 4 + number a) (y * 4 + number b)) (ti-key a) (ti-key b)
 
   precedes-by : (a b : Mailbox) → precedes z a b ≡ pick mode (earlier (orderNumbers order) (number a) (number b)) (before words a b)
   precedes-by a b =
-      ap₂ (λ (p q : Bool). pick p (earlier (orderNumbers order) (number a) (number b)) q) (ap (λ (w : ℕ). bit 2 w) mcr-read) (by-bits a b)
+      ap₂ (λ (p q : Bool). pick p (earlier (orderNumbers order) (number a) (number b)) q) (ap (λ (w : ℕ). bit 2 w) (mcr-shown z)) (by-bits a b)
 
   pub pending-by : (m : Mailbox) → isPending z m ≡ holds order m && not (isFrom wire m)
   pending-by m = ap₂ (λ (p q : Bool). p && not q) (has-order order m) (has-wire wire m)

@@ -15,7 +15,7 @@ use Rattle.model.specs.Banks.{bank, classBy, classOf, belongs}
 use Rattle.model.specs.Registers.{registerAt, filterRegister, isAbsent, bankCount, bankWord, withBankWord, banksWritten, readWord}
 use Rattle.model.specs.Step.{step, answered, refusal, wordOf, banksAfter, banksApplied}
 use Rattle.model.specs.Codes.{offsetOf, reads}
-use Rattle.model.specs.Filtering.{scaleBit, modeBit, Shown, BankWord, wordR1, wordR2, BankWords}
+use Rattle.model.specs.Filtering.{scaleBit, modeBit, BankShown, BankWord, wordR1, wordR2, BankWords}
 use Rattle.model.specs.ReadBack.{sets}
 use Rattle.model.specs.Shown.{fifoNumber}
 use Rattle.model.specs.declared.Bank.{Bank}
@@ -82,9 +82,9 @@ fifo-of F0 z b = (λ e. clear (eqb-false _ _ (Is-not _ e)), λ e. rw e)
     clear : (z .core .filters .assignment / 2 ^ (b .0) % 2 ≡ 1 → ⊥) → z .core .filters .assignment / 2 ^ (b .0) % 2 ≡ 0
     clear q = omega arith
 
-pub shown : (z : Controller) (b : Bank) → Shown z b
+pub bank-shown : (z : Controller) (b : Bank) → BankShown z b
 unfolding classOf
-shown z b =
+bank-shown z b =
     let r = filter-read z in
     record {
       active = rw (r .activation);

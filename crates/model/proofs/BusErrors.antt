@@ -1,5 +1,5 @@
 -- What an accepted step does to TEC, REC, LEC, the recovery count, and to whether Initialization was entered since bus-off.
-use mathlib.Core.Bool.{Bool, true, false, not, _&&_, _||_, true≢false, false≢true}
+use mathlib.Core.Bool.{Bool, true, false, not, _&&_, true≢false, and-comm, and-true, and-false, or-false}
 use mathlib.Core.Path.{_≡_, refl, sym, ap, _∙_}
 use mathlib.Core.List.{List}
 use Prim.Native.Nat.{ℕ, _+_, _-_, _/_, _%_, _^_, _≤_, _<_}
@@ -32,6 +32,7 @@ use Rattle.model.proofs.Choices.{Is, Not, and-l, and-r, Is-not, pick-ca
 use Rattle.model.proofs.Follows.{end-accepted, may-end}
 use Rattle.model.proofs.Mapped.{map}
 use Rattle.model.proofs.RegisterAccess.{elsewhere}
+use Rattle.model.proofs.EventRanges.{receive-error-step}
 
 -- the counts as the controller stores them
 abbrev pub countsOf : Core → ErrorCounts
@@ -41,24 +42,6 @@ abbrev pub stored : Controller → ErrorCounts
 stored z = countsOf (z .core)
 
 -- ---- tests
-
-and-comm : (a b : Bool) → (a && b) ≡ (b && a)
-and-comm true true = refl
-and-comm true false = refl
-and-comm false true = refl
-and-comm false false = refl
-
-pub and-true : (a : Bool) → (a && true) ≡ a
-and-true true = refl
-and-true false = refl
-
-and-false : (a : Bool) → (a && false) ≡ false
-and-false true = refl
-and-false false = refl
-
-or-false : (a : Bool) → (a || false) ≡ a
-or-false true = refl
-or-false false = refl
 
 not-and : (a : Bool) → (not a && a) ≡ false
 not-and true = refl
@@ -248,16 +231,11 @@ rec-plus : (b : Bool) (x n : ℕ) → n ≤ 255 → ltb (255 - n) x ≡ b → pi
 rec-plus true x n h e = let k : 255 - n < x = ltb-true _ _ e in rw (lt-ltb 255 (x + n) (omega arith))
 rec-plus false x n h e = let k : x ≤ 255 - n = ltb-false _ _ e in rw (le-ltb 255 (x + n) (omega arith))
 
-small-step : (a b : Bool) (n : ℕ) → eqb n 1 ≡ a → eqb n 8 ≡ b → Is (a || b) → n ≤ 255
-small-step true b n p q h = let e : n ≡ 1 = eqb-true _ _ p in omega arith
-small-step false true n p q h = let e : n ≡ 8 = eqb-true _ _ q in omega arith
-small-step false false n p q h = absurd (false≢true h)
-
 receive-error-counts : (c : Core) (b : List ℕ) (k n : ℕ) (v : Seen) → Is (receiveErrorInRange k n) → Is (mayReceive c)
     → Settles c (applied c b (ReceiveError k n)) (stepCounted (countsOf c) v (ReceiveError k n))
 unfolding applied errorsChanged receiveErrorCounters recPlus receiveErrorInRange
 receive-error-counts c b k n v r h =
-    let s : n ≤ 255 = small-step (eqb n 1) (eqb n 8) n refl refl (and-r (leb 1 k && leb k 6) (eqb n 1 || eqb n 8) r) in
+    let s : n ≤ 255 = omega (arith, receive-error-step k n r) in
     kept-mode c (applied c b (ReceiveError k n)) (stepCounted (countsOf c) v (ReceiveError k n)) refl
     (changed c (receiveErrorCounters (c .errors) k n) (hears-on c h)
     ∙ ap (λ (x : ℕ). countersBecome (countsOf c) (c .errors .tec) x k) (rec-plus (ltb (255 - n) (c .errors .rec)) (c .errors .rec) n s refl))

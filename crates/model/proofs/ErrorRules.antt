@@ -1,5 +1,5 @@
 -- The error flags, ERRI, REC and LEC after each step.
-use mathlib.Core.Bool.{Bool, true, false, not, _&&_, _||_, true≢false}
+use mathlib.Core.Bool.{Bool, true, false, not, _&&_, _||_, true≢false, and-false, or-false}
 use mathlib.Core.Path.{_≡_, refl, sym, ap, _∙_}
 use mathlib.Core.List.{List}
 use Prim.Native.Nat.{ℕ, _+_, _-_, _≤_, _<_, min}
@@ -25,9 +25,10 @@ use Rattle.model.specs.declared.Step as steps
 use Rattle.model.specs.declared.Step.the-variants.{Reset, Read, Write, Idle, BitTimes, Activity, Start, Outcome, Receive, ReceiveError}
 use Rattle.model.proofs.Choices.{pick-cases, or-l, or-r, and-l, and-r, refused-if, refused-unless}
 use Rattle.model.proofs.Reached.{step-in-range}
-use Rattle.model.proofs.ShownWords.{msr-shown, ier-shown, esr-shown, msr-erri, esr-ewgf, esr-epvf, esr-boff, esr-lec, esr-tec, esr-rec}
+use Rattle.model.proofs.ShownWords.{msr-shown, ier-shown, esr-shown, msr-erri, esr-ewgf, esr-epvf, esr-lec, esr-tec, esr-rec}
 use Rattle.model.proofs.WriteTargets.{control-written, errors-written, flags-written}
 use Rattle.model.proofs.DoneSteps.{accepted, done-core, rule-left}
+use Rattle.model.proofs.ReadFields.{boff-read}
 
 -- ---- what ESR shows
 
@@ -43,9 +44,6 @@ shown-ewgf z = rw (esr-shown z) (esr-ewgf (z .core .errors))
 shown-epvf : (z : Controller) → read.epvf z ≡ epvf (z .core .errors)
 shown-epvf z = rw (esr-shown z) (esr-epvf (z .core .errors))
 
-shown-boff : (z : Controller) → read.boff z ≡ boff (z .core .errors)
-shown-boff z = rw (esr-shown z) (esr-boff (z .core .errors))
-
 shown-erri : (z : Controller) → bit 2 (msr z) ≡ z .core .control .erri
 shown-erri z = rw (msr-shown z) (msr-erri (z .core .control) (isFree (z .core)))
 
@@ -54,7 +52,7 @@ error-status z i = record {
   tecField = rw (esr-shown z) (esr-tec (z .core .errors) (i .core .errors .lec));
   warning = rw (shown-rec z i) (shown-ewgf z);
   passive = rw (shown-rec z i) (shown-epvf z);
-  busOff = shown-boff z;
+  busOff = boff-read z;
 }
 
 -- ---- REC and LEC
@@ -242,14 +240,6 @@ module _ (e d : Errors) (t : d .tec ≤ e .tec) (r : d .rec ≤ e .rec) where
   unraised : (k : Control) → raised k e d false ≡ k .erri
   unraised k = rw (no-ewgf, no-epvf, no-boff) (none (k .erri) (bit 8 (k .ier)) (bit 9 (k .ier)) (bit 10 (k .ier)) (bit 11 (k .ier)))
     where
-      and-false : (b : Bool) → (b && false) ≡ false
-      and-false true = refl
-      and-false false = refl
-
-      or-false : (b : Bool) → (b || false) ≡ b
-      or-false true = refl
-      or-false false = refl
-
       none : (i a b c d : Bool) → (i || (a && false) || (b && false) || (c && false) || (d && false)) ≡ i
       none i a b c d = simp (and-false, or-false)
 
@@ -340,10 +330,10 @@ error-change z s i j h =
     let d = done-errors z s h in
     let y : Controller = nextOf z s in
     record {
-      received = rw (shown-rec y j, shown-rec z i, shown-boff z, shown-boff y, d) (applied-rec (z .core) (z .banks) s a);
+      received = rw (shown-rec y j, shown-rec z i, boff-read z, boff-read y, d) (applied-rec (z .core) (z .banks) s a);
       last = rw (shown-lec y j, shown-lec z i, d) (applied-lec (z .core) (z .banks) s a);
       warned = warned (read.ewgf z) (read.ewgf y) (read.tec z) (read.rec z) (read.tec y) (read.rec y) (error-status z i .warning) (error-status y j .warning);
-      erri = rw (shown-erri y, shown-erri z, shown-ewgf z, shown-ewgf y, shown-epvf z, shown-epvf y, shown-boff z, shown-boff y, ier-shown z, d, done-core z s h)
+      erri = rw (shown-erri y, shown-erri z, shown-ewgf z, shown-ewgf y, shown-epvf z, shown-epvf y, boff-read z, boff-read y, ier-shown z, d, done-core z s h)
           (rule-left (applied (z .core) (z .banks) s) .erri ∙ applied-erri (z .core) (z .banks) s a);
     }
 

@@ -119,7 +119,7 @@ step-one-or-eight : (n : ℕ) (b : Bool) → eqb n 1 ≡ b → (b || eqb n 8) �
 step-one-or-eight n true e h = let l : n ≡ 1 = eqb-true _ _ e in omega arith
 step-one-or-eight n false e h = let l : n ≡ 8 = eqb-true _ _ h in omega arith
 
-receive-error-step : (k n : ℕ) → receiveErrorInRange k n ≡ true → n ≤ 8
+pub receive-error-step : (k n : ℕ) → receiveErrorInRange k n ≡ true → n ≤ 8
 unfolding receiveErrorInRange
 receive-error-step k n ok = step-one-or-eight n (eqb n 1) refl (and-r (leb 1 k && leb k 6) (eqb n 1 || eqb n 8) ok)
 

@@ -10,7 +10,7 @@ use Rattle.model.specs.Queue.{flag, holds, joined}
 use Rattle.model.specs.Control.{txfp, controlReset}
 use Rattle.model.specs.Registers.{reset, registerAt, controlRegister}
 use Rattle.model.specs.Step.{step, answered, refusal}
-use Rattle.model.specs.Reachable.{distinct, carried}
+use Rattle.model.specs.Reachable.{InRange, distinct, carried}
 use Rattle.model.specs.Requests.{Event, nothing, drops, modes, accepts, aborts, starts, ends, Entry, Requests, noneYet, next, requestsAfter, after, entries, event, entry}
 use Rattle.model.specs.Shown.{tme}
 use Rattle.model.specs.Fairness.{isDrop, inOrder, Moment, meanwhile, hasEnded, underRequestOrder, otherEnds, otherEnd, isGood, endsWell, every, count, Served, Fairness, requestsFrom, entriesBehind}
@@ -35,10 +35,13 @@ Good z = Sound (z .core .transmit .queue)
 abbrev pub view : Controller → View
 view z = viewOf (z .core)
 
+pub good : (z : Controller) → InRange z → Good z
+good z i = record { once = i .core .transmit .queue .once; wired = i .core .transmit .queue .carries }
+
 step-sound : (z : Controller) (s : steps.Step) → Good z → Good (step z s .controller)
 step-sound z s g = subst (λ (d : View). Sound (d .queue)) (sym (follows z s .view)) (sound-next (view z) (event (entry s (step z s))) g (follows z s .granted))
 
-step-requests : (z : Controller) (s : steps.Step) → Good z → next (requestsOf (view z)) (event (entry s (step z s))) ≡ requestsOf (view (step z s .controller))
+pub step-requests : (z : Controller) (s : steps.Step) → Good z → next (requestsOf (view z)) (event (entry s (step z s))) ≡ requestsOf (view (step z s .controller))
 step-requests z s g = requests-follow (view z) (event (entry s (step z s))) g (follows z s .granted) ∙ ap requestsOf (sym (follows z s .view))
 
 run-sound : (l : List steps.Step) (z : Controller) → Good z → Good (after z l)

@@ -1,5 +1,5 @@
 -- The FIFOs after each step: what a frame, a release and a reset change, and what the output shows.
-use mathlib.Core.Bool.{Bool, true, false, not, _&&_, _||_}
+use mathlib.Core.Bool.{Bool, true, false, not, _&&_, _||_, or-false}
 use mathlib.Core.Path.{_≡_, refl, sym, ap, _∙_}
 use mathlib.Core.List.{List}
 use Prim.Native.Nat.{ℕ, zero, suc, _+_, _-_, _*_, _/_, _%_, _^_, _≤_, _<_, min}
@@ -12,14 +12,13 @@ use Rattle.model.specs.Mailboxes.{at, tdtMasked, sentIdentifier, tiWord}
 use Rattle.model.specs.Search.{acceptance}
 use Rattle.model.specs.Reception.{malformed, dataBytes, bytesKept, storedFrame, sentFrame, noFrame, emptyFifo, pushed, fmiOf, received, released, cleared, rfrWritten, rfrWord, output}
 use Rattle.model.specs.Control.{rflm, lbkm}
-use Rattle.model.specs.Registers.{registerAt, blockRegister, mailboxRegister, readWord, bankCount, reset, fifoOf}
-use Rattle.model.specs.Step.{step, answered, refusal, wordOf, applied, settled, storedBy, startedBy, loopedBack, endedBy}
+use Rattle.model.specs.Registers.{bankCount, reset, fifoOf}
+use Rattle.model.specs.Step.{refusal, applied, storedBy, loopedBack, endedBy}
 use Rattle.model.specs.Reachable.{InRange, StepRange, FifoRange, MailboxRange}
-use Rattle.model.specs.Shown.{fmr, rdt, rdl, rdh, ti, tdt, tdl, tdh, Done, nextOf, fifoNumber}
+use Rattle.model.specs.Shown.{fmr, rdt, rdl, rdh, ti, tdt, Done, nextOf, fifoNumber}
 use Rattle.model.specs.Fifos.{other, NoOutput, SameOutput, Kept, hasByte, Shows, Stored, Passed, SentBy, isLooped, EndRule, WriteRule, FifoRule, Fifos}
 use Rattle.model.specs.Shown as read
 use Rattle.model.specs.declared.Mailbox.{Mailbox}
-use Rattle.model.specs.declared.Mailbox.the-variants.{M0, M1, M2}
 use Rattle.model.specs.declared.MailboxState.{MailboxState}
 use Rattle.model.specs.declared.Sender.{Sender}
 use Rattle.model.specs.declared.Sender.the-variants.{Nobody, From}
@@ -40,9 +39,10 @@ use Rattle.model.proofs.Masks.{field}
 use Rattle.model.proofs.FilterNumbers.{fmi-small}
 use Rattle.model.proofs.FifoRanges.{well-formed-length, sent-range, fmi-of-range}
 use Rattle.model.proofs.Reached.{step-in-range}
-use Rattle.model.proofs.ShownWords.{rfr-shown, btr-shown, fmr-shown, ri-shown, rdt-shown, rdl-shown, rdh-shown, flag-bit, rfr-fmp, rfr-full, rfr-fovr}
+use Rattle.model.proofs.ShownWords.{rfr-shown, btr-shown, fmr-shown, ri-shown, rdt-shown, rdl-shown, rdh-shown, flag-bit, rfr-fmp, rfr-full, rfr-fovr, ti-shown, tdt-shown, tdl-shown, tdh-shown}
 use Rattle.model.proofs.WriteTargets.{fifo-written}
 use Rattle.model.proofs.DoneSteps.{accepted, done-core}
+use Rattle.model.proofs.Waiting.{start-keeps, settled-fifo}
 
 -- ---- what is shown
 
@@ -94,10 +94,6 @@ module _ (q : FifoState) (x : StoredFrame) (b : Bool) (l : q .count ≤ 3) where
     fovr : p .fovr ≡ q .fovr || eqb (q .count) 3
     first : p .first ≡ pick (eqb (q .count) 0) x (q .first)
 
-  or-none : (a : Bool) → a ≡ a || false
-  or-none true = refl
-  or-none false = refl
-
   or-all : (a : Bool) → true ≡ a || true
   or-all true = refl
   or-all false = refl
@@ -107,12 +103,12 @@ module _ (q : FifoState) (x : StoredFrame) (b : Bool) (l : q .count ≤ 3) where
   pushed-places = go (eqb (q .count) 0) (eqb (q .count) 1) (eqb (q .count) 2) refl refl refl
     where
       go : (c d e : Bool) → eqb (q .count) 0 ≡ c → eqb (q .count) 1 ≡ d → eqb (q .count) 2 ≡ e → Places (pushed q x b)
-      go true d e h i j = let n : q .count ≡ 0 = eqb-true _ _ h in record { count = rw n; full = rw n (or-none (q .full)); fovr = rw n (or-none (q .fovr)); first = rw n }
-      go false true e h i j = let n : q .count ≡ 1 = eqb-true _ _ i in record { count = rw n; full = rw n (or-none (q .full)); fovr = rw n (or-none (q .fovr)); first = rw n }
-      go false false true h i j = let n : q .count ≡ 2 = eqb-true _ _ j in record { count = rw n; full = rw n (or-all (q .full)); fovr = rw n (or-none (q .fovr)); first = rw n }
+      go true d e h i j = let n : q .count ≡ 0 = eqb-true _ _ h in record { count = rw n; full = rw n (sym (or-false (q .full))); fovr = rw n (sym (or-false (q .fovr))); first = rw n }
+      go false true e h i j = let n : q .count ≡ 1 = eqb-true _ _ i in record { count = rw n; full = rw n (sym (or-false (q .full))); fovr = rw n (sym (or-false (q .fovr))); first = rw n }
+      go false false true h i j = let n : q .count ≡ 2 = eqb-true _ _ j in record { count = rw n; full = rw n (or-all (q .full)); fovr = rw n (sym (or-false (q .fovr))); first = rw n }
       go false false false h i j =
           let n : q .count ≡ 3 = omega (arith, eqb-false (q .count) 0 h, eqb-false (q .count) 1 i, eqb-false (q .count) 2 j) in
-          record { count = rw n; full = rw n (or-none (q .full)); fovr = rw n (or-all (q .fovr)); first = rw n }
+          record { count = rw n; full = rw n (sym (or-false (q .full))); fovr = rw n (or-all (q .fovr)); first = rw n }
 
 -- ---- bytes
 
@@ -211,11 +207,6 @@ stored f z y x n time b i j l h t e o =
 
 -- ---- a frame that passes the filters
 
-settled-fifo : (f : Fifo) (d : Core) → fifoOf f (settled d) ≡ fifoOf f d
-unfolding settled
-settled-fifo F0 d = refl
-settled-fifo F1 d = refl
-
 done-fifo : (f : Fifo) (z : Controller) (s : steps.Step) → Done z s → fifo f (nextOf z s) ≡ fifoOf f (applied (z .core) (z .banks) s)
 done-fifo f z s h = rw (done-core z s h) (settled-fifo f _)
 
@@ -248,30 +239,6 @@ receive-passes z x i j h =
     by F1 = refl
 
 -- ---- loopback
-
-ti-shown : (m : Mailbox) (z : Controller) → ti m z ≡ tiWord (z .core .transmit) m
-unfolding step answered refusal wordOf registerAt blockRegister mailboxRegister readWord
-ti-shown M0 z = refl
-ti-shown M1 z = refl
-ti-shown M2 z = refl
-
-tdt-shown : (m : Mailbox) (z : Controller) → tdt m z ≡ at (z .core .transmit .mailboxes) m .tdt
-unfolding step answered refusal wordOf registerAt blockRegister mailboxRegister readWord
-tdt-shown M0 z = refl
-tdt-shown M1 z = refl
-tdt-shown M2 z = refl
-
-tdl-shown : (m : Mailbox) (z : Controller) → tdl m z ≡ at (z .core .transmit .mailboxes) m .tdl
-unfolding step answered refusal wordOf registerAt blockRegister mailboxRegister readWord
-tdl-shown M0 z = refl
-tdl-shown M1 z = refl
-tdl-shown M2 z = refl
-
-tdh-shown : (m : Mailbox) (z : Controller) → tdh m z ≡ at (z .core .transmit .mailboxes) m .tdh
-unfolding step answered refusal wordOf registerAt blockRegister mailboxRegister readWord
-tdh-shown M0 z = refl
-tdh-shown M1 z = refl
-tdh-shown M2 z = refl
 
 -- the fields of an identifier word that is their sum
 module _ (w q b e r h : ℕ) (s : w ≡ q * 2 ^ 21 + b * 8 + e * 4 + r * 2 + h) (lq : q < 2 ^ 11) (lb : b < 2 ^ 18) (le : e < 2) (lr : r < 2) (lh : h < 2) where
@@ -519,11 +486,6 @@ both : (f : Fifo) (d c : Core) → d .fifo0 ≡ c .fifo0 → d .fifo1 ≡ c .fif
 both F0 d c p q = p
 both F1 d c p q = q
 
-start-kept : (f : Fifo) (u : Sender) (c : Core) → fifoOf f (startedBy u c) ≡ fifoOf f c
-unfolding startedBy
-start-kept f Nobody c = refl
-start-kept f (From m) c = both f _ c refl refl
-
 fifo-rule : (z : Controller) (s : steps.Step) → InRange z → InRange (nextOf z s) → Done z s → FifoRule z s (nextOf z s)
 unfolding applied reset rfrWord
 fifo-rule z Reset i j h = λ f. rfr-shown f _ ∙ (ap rfrWord (done-fifo f z Reset h) ∙ none f)
@@ -536,7 +498,7 @@ fifo-rule z (Write o w) i j h = λ f. write-rule f z o w i j h
 fifo-rule z Idle i j h = λ f. kept f z _ (done-fifo f z Idle h ∙ both f _ (z .core) refl refl)
 fifo-rule z (BitTimes n) i j h = λ f. kept f z _ (done-fifo f z (BitTimes n) h ∙ both f _ (z .core) refl refl)
 fifo-rule z Activity i j h = λ f. kept f z _ (done-fifo f z Activity h ∙ both f _ (z .core) refl refl)
-fifo-rule z Start i j h = λ f. kept f z _ (done-fifo f z Start h ∙ start-kept f _ (z .core))
+fifo-rule z Start i j h = λ f. kept f z _ (done-fifo f z Start h ∙ start-keeps f _ (z .core))
 fifo-rule z (Outcome r) i j h = end-rule z r i j h
 fifo-rule z (Receive x) i j h = receive-passes z x i j h
 fifo-rule z (ReceiveError k n) i j h = λ f. kept f z _ (done-fifo f z (ReceiveError k n) h ∙ both f _ (z .core) refl refl)

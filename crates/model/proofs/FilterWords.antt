@@ -4,7 +4,7 @@ use mathlib.Core.Logic.{_↔_}
 use mathlib.Core.Path.{_≡_, refl, sym, ap, _∙_}
 use Prim.Native.Nat.{ℕ, zero, suc, _+_, _*_, _/_, _%_, _^_, _<_, min}
 use native.Mathlib.Omega.{arith}
-use borrow.Author.Tests.{eq-eqb, eqb-true, eqb-false}
+use borrow.Author.Tests.{eq-eqb, eqb-true, eqb-false, not-false}
 use lib.Bits.{bitAnd}
 use lib.Dec.{eqb, ltb}
 use lib.Pow.{shr-shr}
@@ -117,11 +117,7 @@ received : (x : Frame) → malformed x ≡ false → bit 2 (x .identifier) ≡ f
 unfolding malformed
 received x h s =
     let e : not (eqb (bits 3 18 (x .identifier)) 0) ≡ false = or-r (bit 0 (x .identifier)) _ (or-l _ (ltb 15 (x .length)) (rw s at h)) in
-    low-field (x .identifier) ∙ no-extended (x .identifier) (eqb-true _ _ (negated _ e))
-  where
-    negated : (b : Bool) → not b ≡ false → b ≡ true
-    negated true q = refl
-    negated false q = absurd (true≢false q)
+    low-field (x .identifier) ∙ no-extended (x .identifier) (eqb-true _ _ (not-false _ e))
 
 sent : (x : MailboxState) → bit 2 (x .ti) ≡ false → bits 0 3 (shortWord (sentFrame x .identifier)) ≡ 0
 unfolding sentFrame sentIdentifier

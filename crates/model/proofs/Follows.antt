@@ -151,7 +151,7 @@ held-two a b = each (λ o a b c. holds (Two a b) a && holds (Two a b) b) refl Em
 held-three : (a b c : Mailbox) → Is (holds (Three a b c) a && (holds (Three a b c) b && holds (Three a b c) c))
 held-three a b c = each (λ o a b c. holds (Three a b c) a && (holds (Three a b c) b && holds (Three a b c) c)) refl Empty a b c
 
-from-eq : (a m : Mailbox) → From a ≡ From m → a ≡ m
+pub from-eq : (a m : Mailbox) → From a ≡ From m → a ≡ m
 from-eq a m e = cc
 
 first-in-wire-order-held : (i : Identifiers) (o : RequestOrder) (m : Mailbox) → firstInWireOrder i o ≡ From m → Is (holds o m)

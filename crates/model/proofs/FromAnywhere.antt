@@ -9,7 +9,7 @@ use Rattle.model.specs.Registers.{reset}
 use Rattle.model.specs.Step.{step}
 use Rattle.model.specs.Requests.{Requests, noneYet, next, requestsAfter, after, entries, event, entry}
 use Rattle.model.specs.Fairness.{Fairness, requestsFrom}
-use Rattle.model.specs.Reachable.{InRange, StepRange, StepsRange}
+use Rattle.model.specs.Reachable.{StepRange, StepsRange}
 use Rattle.model.specs.History.{Tied}
 use Rattle.model.specs.Script.{bodyLength, decoded, reading, recordAt, replayed, begun, afterRecord, advanced, times, replay, stepsBy, stepsFrom, stepsOf}
 use Rattle.model.specs.Records.{Bytes, stepFields, FitWidths, AllFit}
@@ -21,7 +21,7 @@ use Rattle.model.specs.declared.Reading.the-variants.{End, Malformed, Fo
 use Rattle.model.specs.declared.Step as steps
 use Rattle.model.specs.declared.Step.the-variants.{Reset, Read, Write, Idle, BitTimes, Activity, Start, Outcome, Receive, ReceiveError}
 use Rattle.model.proofs.Computed.{everything}
-use Rattle.model.proofs.Fair.{Good, run-requests, after-append, good-fair, fairness}
+use Rattle.model.proofs.Fair.{run-requests, after-append, good-fair, fairness, good}
 use Rattle.model.proofs.Reached.{after-in-range, reachable}
 use Rattle.model.proofs.Tied.{tied}
 use Rattle.model.proofs.Replays.{steps-on, replays}
@@ -85,9 +85,6 @@ of-scripts s space = record {
 }
 
 -- ---- any start
-
-good : (z : Controller) → InRange z → Good z
-good z r = record { once = r .core .transmit .queue .once; wired = r .core .transmit .queue .carries }
 
 pub from-state : (z : Controller) (l : List steps.Step) → FromState z l
 from-state z l = record {

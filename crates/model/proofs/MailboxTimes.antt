@@ -6,11 +6,11 @@ use Prim.Native.Nat.{ℕ, _+_, _*_, _/_, _%_, _^_, _<_}
 use native.Mathlib.Omega.{arith}
 use lib.Dec.{eqb}
 use borrow.Author.Tests.{eqb-true}
-use Rattle.model.specs.Base.{pick, bit, bits}
-use Rattle.model.specs.Queue.{number, isEmpty, isNobody, senderNumber}
-use Rattle.model.specs.Mailboxes.{at, put, tdtMasked, tiWritten, tdtWritten, tdlWritten, tdhWritten, requestedBy, cleared, completed, tsrWritten, first, firstInWireOrder, firstOf, identifiers, started, outcomeFlags, ended}
+use Rattle.model.specs.Base.{pick, bits}
+use Rattle.model.specs.Queue.{number, isNobody, senderNumber}
+use Rattle.model.specs.Mailboxes.{at, put, tdtMasked, tdtWritten, firstOf, identifiers, started, outcomeFlags, ended}
 use Rattle.model.specs.Control.{txfp, controlReset}
-use Rattle.model.specs.Registers.{registerAt, reset, coreReset, written}
+use Rattle.model.specs.Registers.{registerAt, reset, written}
 use Rattle.model.specs.Step.{step, answered, coreAfter, refusal, wordOf, applied, settled, mayStart, storedBy, startedBy, endedBy}
 use Rattle.model.specs.Requests.{after}
 use Rattle.model.specs.Reachable.{InRange, StepsRange}
@@ -20,25 +20,21 @@ use Rattle.model.specs.declared.Mailbox.{Mailbox}
 use Rattle.model.specs.declared.Mailbox.the-variants.{M0, M1, M2}
 use Rattle.model.specs.declared.Sender.{Sender}
 use Rattle.model.specs.declared.Sender.the-variants.{Nobody, From}
-use Rattle.model.specs.declared.RequestOrder.{RequestOrder}
-use Rattle.model.specs.declared.RequestOrder.the-variants.{Empty, One, Two, Three}
-use Rattle.model.specs.declared.Fifo.the-variants.{F0, F1}
-use Rattle.model.specs.declared.Identifiers.{Identifiers}
 use Rattle.model.specs.declared.MailboxState.{MailboxState}
 use Rattle.model.specs.declared.Mailboxes.{Mailboxes}
 use Rattle.model.specs.declared.Core.{Core}
 use Rattle.model.specs.declared.Controller.{Controller}
-use Rattle.model.specs.declared.Register.{Register}
-use Rattle.model.specs.declared.Register.the-variants.{Mcr, Msr, Tsr, Rfr, Ier, Esr, Btr, Ti, Tdt, Tdl, Tdh, Ri, Rdt, Rdl, Rdh, Fmr, Fm1r, Fs1r, Ffa1r, Fa1r, R1, R2, Absent}
+use Rattle.model.specs.declared.Register.the-variants.{Tdt}
 use Rattle.model.specs.declared.Step as steps
 use Rattle.model.specs.declared.Step.the-variants.{Reset, Read, Write, Idle, BitTimes, Activity, Start, Outcome, Receive, ReceiveError}
-use Rattle.model.proofs.Choices.{Not, pick-cases}
+use Rattle.model.proofs.Choices.{Not}
 use Rattle.model.proofs.Follows.{Startable, startable, start-accepted}
 use Rattle.model.proofs.Mapped.{map}
-use Rattle.model.proofs.RegisterAccess.{elsewhere}
+use Rattle.model.proofs.RegisterAccess.{first-somebody}
 use Rattle.model.proofs.ShownWords.{tdt-shown}
 use Rattle.model.proofs.Reached.{reset-in-range, step-in-range}
 use Rattle.model.proofs.Timing.{step-timer}
+use Rattle.model.proofs.WordsKept.{put-field, tdt-kept}
 
 abbrev tdtOf : Mailbox → Core → ℕ
 tdtOf m c = at (c .transmit .mailboxes) m .tdt
@@ -47,17 +43,6 @@ abbrev timeOf : Mailbox → Core → ℕ
 timeOf m c = bits 16 16 (tdtOf m c)
 
 -- ---- one of three
-
-put-other : (m n : Mailbox) (b : Mailboxes) (x : MailboxState) → x .tdt ≡ at b n .tdt → at (put b n x) m .tdt ≡ at b m .tdt
-put-other M0 M0 b x e = e
-put-other M0 M1 b x e = refl
-put-other M0 M2 b x e = refl
-put-other M1 M0 b x e = refl
-put-other M1 M1 b x e = e
-put-other M1 M2 b x e = refl
-put-other M2 M0 b x e = refl
-put-other M2 M1 b x e = refl
-put-other M2 M2 b x e = e
 
 put-here : (m n : Mailbox) (b : Mailboxes) (x : MailboxState) → at (put b n x) m .tdt ≡ pick (eqb (number n) (number m)) (x .tdt) (at b m .tdt)
 put-here M0 M0 b x = refl
@@ -71,43 +56,6 @@ put-here M2 M1 b x = refl
 put-here M2 M2 b x = refl
 
 -- ---- writes
-
-other-writes : (m : Mailbox) (r : Register) (c : Core) (w : ℕ) → (r ≡ Tdt m → ⊥) → tdtOf m (written r c w) ≡ tdtOf m c
-unfolding written coreReset requestedBy tiWritten tdtWritten tdlWritten tdhWritten tsrWritten completed cleared
-other-writes m Mcr c w e = pick-cases (λ (d : Core). tdtOf m d ≡ tdtOf m c) (bit 15 w) _ _ (λ _. refl) (λ _. refl)
-other-writes M0 Tsr c w e = refl
-other-writes M1 Tsr c w e = refl
-other-writes M2 Tsr c w e = refl
-other-writes m (Ti n) c w e = put-other m n (c .transmit .mailboxes) _ refl
-other-writes m (Tdl n) c w e = put-other m n (c .transmit .mailboxes) _ refl
-other-writes m (Tdh n) c w e = put-other m n (c .transmit .mailboxes) _ refl
-other-writes M0 (Tdt M0) c w e = absurd (e refl)
-other-writes M0 (Tdt M1) c w e = refl
-other-writes M0 (Tdt M2) c w e = refl
-other-writes M1 (Tdt M0) c w e = refl
-other-writes M1 (Tdt M1) c w e = absurd (e refl)
-other-writes M1 (Tdt M2) c w e = refl
-other-writes M2 (Tdt M0) c w e = refl
-other-writes M2 (Tdt M1) c w e = refl
-other-writes M2 (Tdt M2) c w e = absurd (e refl)
-other-writes m (Rfr F0) c w e = refl
-other-writes m (Rfr F1) c w e = refl
-other-writes m Msr c w e = refl
-other-writes m Ier c w e = refl
-other-writes m Esr c w e = refl
-other-writes m Btr c w e = refl
-other-writes m (Ri f) c w e = refl
-other-writes m (Rdt f) c w e = refl
-other-writes m (Rdl f) c w e = refl
-other-writes m (Rdh f) c w e = refl
-other-writes m Fmr c w e = refl
-other-writes m Fm1r c w e = refl
-other-writes m Fs1r c w e = refl
-other-writes m Ffa1r c w e = refl
-other-writes m Fa1r c w e = refl
-other-writes m (R1 b) c w e = refl
-other-writes m (R2 b) c w e = refl
-other-writes m Absent c w e = refl
 
 masked-time : (w : ℕ) → bits 16 16 (tdtMasked w) ≡ bits 16 16 w
 masked-time w = digit (bits 16 16 w) (bits 8 1 w) (w % 16) (omega arith) (omega arith) (omega arith)
@@ -123,19 +71,9 @@ tdt-write M2 c w = masked-time w
 
 write-time : (b : Bool) (m : Mailbox) (o : ℕ) (c : Core) (w : ℕ) → eqb o (0x184 + 0x10 * number m) ≡ b → timeOf m (written (registerAt o) c w) ≡ pick b (bits 16 16 w) (timeOf m c)
 write-time true m o c w e = rw (eqb-true o (0x184 + 0x10 * number m) e, map .found (Tdt m) tt) (tdt-write m c w)
-write-time false m o c w e = ap (λ (n : ℕ). bits 16 16 n) (other-writes m (registerAt o) c w (λ i. elsewhere o (Tdt m) i refl e))
+write-time false m o c w e = ap (λ (n : ℕ). bits 16 16 n) (tdt-kept o c w m e)
 
 -- ---- start and own end
-
-some-first : (b : Bool) (i : Identifiers) (o : RequestOrder) → Not (isEmpty o) → Not (isNobody (first b i o))
-unfolding first firstInWireOrder
-some-first b i Empty h = absurd (true≢false h)
-some-first true i (One x) h = refl
-some-first true i (Two x y) h = refl
-some-first true i (Three x y z) h = refl
-some-first false i (One x) h = refl
-some-first false i (Two x y) h = refl
-some-first false i (Three x y z) h = refl
 
 started-time : (b : Bool) (x t y : ℕ) → t < 65536 → bits 16 16 (pick b (y % 65536 + t * 65536) x) ≡ pick b t (bits 16 16 x)
 started-time true x t y h = omega arith
@@ -152,7 +90,7 @@ start-time (From x) m c n h =
 end-time : (v : Sender) (m : Mailbox) (c : Core) (b : List ℕ) (r : ℕ) → tdtOf m (endedBy v c b r) ≡ tdtOf m c
 unfolding endedBy ended outcomeFlags
 end-time Nobody m c b r = refl
-end-time (From x) m c b r = put-other m x (c .transmit .mailboxes) _ refl
+end-time (From x) m c b r = put-field (λ x. x .tdt) (c .transmit .mailboxes) x _ m (λ _. refl)
 
 -- ---- every step
 
@@ -170,7 +108,7 @@ applied-time m z Activity i h = refl
 applied-time m z Start i h =
     let a : Startable (z .core) = startable (z .core) (start-accepted (mayStart (z .core)) h) in
     start-time (firstOf (txfp (z .core .control)) (z .core .transmit)) m (z .core)
-    (some-first (txfp (z .core .control)) (identifiers (z .core .transmit .mailboxes)) (z .core .transmit .queue .order) (a .asked))
+    (ap isNobody (first-somebody (txfp (z .core .control)) (identifiers (z .core .transmit .mailboxes)) (z .core .transmit .queue .order) (a .asked) .is))
     (i .core .control .timer)
 applied-time m z (Outcome r) i h = ap (λ (w : ℕ). bits 16 16 w) (end-time (z .core .transmit .queue .transmitting) m (z .core) (z .banks) r)
 applied-time m z (Receive x) i h = refl

@@ -1,5 +1,5 @@
 -- The decoding of offsets is the register map.
-use mathlib.Core.Bool.{Bool, true, false, not, _&&_, Bool·beq, true≢false}
+use mathlib.Core.Bool.{Bool, true, false, not, _&&_, Bool·beq, true≢false, and-false, and-true}
 use mathlib.Core.Path.{_≡_, refl}
 use Prim.Native.Nat.{ℕ, _+_, _*_, _-_, _/_, _%_, _<_, _≤_}
 use native.Mathlib.Omega.{arith}
@@ -80,17 +80,9 @@ module _ (o : ℕ) (from : 0x240 ≤ o) where
           other : o % 4 ≡ 0 → (o % 8 ≡ 0 → ⊥) → (o % 8 ≡ 4 → ⊥) → ⊥
           other e a b = omega arith
 
-  and-shut : (x : Bool) → (x && false) ≡ false
-  and-shut true = refl
-  and-shut false = refl
-
-  and-open : (x : Bool) → (x && true) ≡ x
-  and-open true = refl
-  and-open false = refl
-
   banks-absent : (b : Bool) → ltb o (0x240 + 8 * bankCount) ≡ b → isAbsent (registerAt o) ≡ not (inMap bankCount o)
-  banks-absent true e = rw (from-banks o from, in-banks o from, e, and-open (eqb (o % 4) 0)) (bank-word .absent)
-  banks-absent false e = rw (from-banks o from, in-banks o from, e, and-shut (eqb (o % 4) 0))
+  banks-absent true e = rw (from-banks o from, in-banks o from, e, and-true (eqb (o % 4) 0)) (bank-word .absent)
+  banks-absent false e = rw (from-banks o from, in-banks o from, e, and-false (eqb (o % 4) 0))
 
   banks-only : (b : Bool) → ltb o (0x240 + 8 * bankCount) ≡ b → isAbsent (registerAt o) ≡ false → offsetOf (registerAt o) ≡ o
   banks-only true e = rw (from-banks o from, e) (bank-word .only)

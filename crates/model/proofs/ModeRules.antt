@@ -1,5 +1,5 @@
 -- The mode, the flags of MSR and the timer after each step.
-use mathlib.Core.Bool.{Bool, true, false, not, _&&_, _||_, true≢false, false≢true}
+use mathlib.Core.Bool.{Bool, true, false, not, _&&_, _||_, true≢false, false≢true, and-false, or-false}
 use mathlib.Core.Path.{_≡_, refl, sym, ap, _∙_}
 use mathlib.Core.List.{List}
 use Prim.Native.Nat.{ℕ, _+_, _-_, _*_, _/_, _%_, _^_, _<_}
@@ -32,34 +32,21 @@ use Rattle.model.specs.declared.Step.the-variants.{Reset, Read, Write, I
 use Rattle.model.proofs.Choices.{pick-cases, and-l, and-r, refused-unless, opposed}
 use Rattle.model.proofs.Masks.{lowest, ttcm-masked}
 use Rattle.model.proofs.Reached.{step-in-range}
-use Rattle.model.proofs.ShownWords.{mcr-shown, msr-shown, ier-shown, msr-mode, msr-wkui, msr-slaki, msr-txm, msr-rest, mode-bits-small}
+use Rattle.model.proofs.ShownWords.{mcr-shown, msr-shown, ier-shown, msr-mode, msr-wkui, msr-slaki, msr-rest, mode-bits-small}
 use Rattle.model.proofs.WriteTargets.{controlWritten, control-written, wire-written, flags-written}
 use Rattle.model.proofs.DoneSteps.{accepted, done-core, rule-left, start-same, end-same}
+use Rattle.model.proofs.ReadFields.{slak-read, txm-read}
 
 -- ---- what MSR shows
 
 shown-mode : (z : Controller) → read.mode z ≡ modeBits (z .core .control .mode)
 shown-mode z = rw (msr-shown z) (msr-mode (z .core .control) (isFree (z .core)))
 
-shown-slak : (z : Controller) → read.slak z ≡ isSleep (z .core .control .mode)
-shown-slak z = go (z .core .control .mode) (shown-mode z)
-  where
-    at : (n : ℕ) → read.mode z ≡ n → msr z / 2 ^ 1 % 2 ≡ n / 2
-    at n e = omega arith
-
-    go : (m : Mode) → read.mode z ≡ modeBits m → read.slak z ≡ isSleep m
-    go Normal e = ap (λ (n : ℕ). eqb n 1) (at 0 e)
-    go Initialization e = ap (λ (n : ℕ). eqb n 1) (at 1 e)
-    go Sleep e = ap (λ (n : ℕ). eqb n 1) (at 2 e)
-
 shown-wkui : (z : Controller) → read.wkui z ≡ z .core .control .wkui
 shown-wkui z = rw (msr-shown z) (msr-wkui (z .core .control) (isFree (z .core)))
 
 shown-slaki : (z : Controller) → read.slaki z ≡ z .core .control .slaki
 shown-slaki z = rw (msr-shown z) (msr-slaki (z .core .control) (isFree (z .core)))
-
-shown-txm : (z : Controller) → read.txm z ≡ not (isFree (z .core))
-shown-txm z = rw (msr-shown z) (msr-txm (z .core .control) (isFree (z .core)))
 
 mode-status : (z : Controller) → ModeStatus z
 mode-status z =
@@ -154,10 +141,6 @@ module _ (c d : Core) (x idle reset : Bool) where
 
 -- ---- SLAKI after the rule
 
-or-none : (b : Bool) → (b || false) ≡ b
-or-none true = refl
-or-none false = refl
-
 free-slaki : (d : Core) → isFree d ≡ true → isSleep (ruled d) ≡ true → settled d .control .slaki ≡ (d .control .slaki || (not (isSleep (d .control .mode)) && bit 17 (d .control .ier)))
 unfolding settled control.settled entered
 free-slaki d f a = let b : isSleep (modeNext (d .control .mode) (inrq (d .control)) (sleep (d .control))) ≡ true = rw f at a in rw (f, b)
@@ -189,7 +172,7 @@ module _ (c d : Core) (x idle reset : Bool) where
   slaki-stayed (stayed r m k n) e p q = go (isFree d) refl
     where
       go : (b : Bool) → isFree d ≡ b → settled d .control .slaki ≡ x
-      go true f = free-slaki d f q ∙ rw (k, m, p) (or-none x)
+      go true f = free-slaki d f q ∙ rw (k, m, p) (or-false x)
       go false f = busy-slaki d f ∙ k
   slaki-stayed (woke r h m a b g) e p q = opposed q (woke-awake m a b g)
   slaki-stayed (wiped r m a b g k) e p q = opposed r e
@@ -236,7 +219,7 @@ no-requests w h p q =
 
 -- into the mode that it has
 entered-same : (b x y : Bool) → pick b (x || (not b && y)) (x && not b) ≡ x
-entered-same true x y = or-none x
+entered-same true x y = or-false x
 entered-same false true y = refl
 entered-same false false y = refl
 
@@ -454,7 +437,7 @@ module _ (z : Controller) (s : steps.Step) (h : Done z s) where
   after-mcr = rw (mcr-shown y, done-core z s h) (rule-left d .mcr)
 
   free-by-txm : (b : Bool) → read.txm y ≡ b → isFree d ≡ not b
-  free-by-txm b e = sym after-free ∙ not-not (isFree (y .core)) b (sym (shown-txm y) ∙ e)
+  free-by-txm b e = sym after-free ∙ not-not (isFree (y .core)) b (sym (txm-read y) ∙ e)
 
   by-mcr : (i : ℕ) (b : Bool) → bit i (mcr y) ≡ b → bit i (d .control .mcr) ≡ b
   by-mcr i b e = rw after-mcr at e
@@ -477,28 +460,24 @@ module _ (z : Controller) (s : steps.Step) (h : Done z s) where
   }
 
   slak-ruled : (b : Bool) → read.slak y ≡ b → isSleep (ruled d) ≡ b
-  slak-ruled b e = sym (ap isSleep after-mode) ∙ (sym (shown-slak y) ∙ e)
+  slak-ruled b e = sym (ap isSleep after-mode) ∙ (sym (slak-read y) ∙ e)
 
   after-slaki : read.slaki y ≡ settled d .control .slaki
   after-slaki = rw (shown-slaki y, done-core z s h)
 
   sleep-flag : InRange z → InRange y → SleepFlag z s y
   sleep-flag p q = record {
-    awake = λ e. shown-slaki y ∙ awake (y .core .control .slaki) (q .core .control .slaki) (sym (shown-slak y) ∙ e);
+    awake = λ e. shown-slaki y ∙ awake (y .core .control .slaki) (q .core .control .slaki) (sym (slak-read y) ∙ e);
     reset = λ r. after-slaki ∙ slaki-reset (z .core) d x (isIdle s) (resets s) way r;
-    entered = λ r a b. after-slaki ∙ (slaki-entered (z .core) d x (isIdle s) (resets s) way r (none (sym (shown-slak z) ∙ a)) (sym (shown-slak z) ∙ a) (slak-ruled true b)
+    entered = λ r a b. after-slaki ∙ (slaki-entered (z .core) d x (isIdle s) (resets s) way r (none (sym (slak-read z) ∙ a)) (sym (slak-read z) ∙ a) (slak-ruled true b)
         ∙ ap (λ (w : ℕ). bit 17 w) (sym after-ier));
-    stayed = λ r a b. after-slaki ∙ (slaki-stayed (z .core) d x (isIdle s) (resets s) way r (sym (shown-slak z) ∙ a) (slak-ruled true b)
+    stayed = λ r a b. after-slaki ∙ (slaki-stayed (z .core) d x (isIdle s) (resets s) way r (sym (slak-read z) ∙ a) (slak-ruled true b)
         ∙ ap (λ (q : Bool). not (writesOne 0x004 4 s) && q) (sym (shown-slaki z)));
   }
     where
       awake : {a : Bool} (b : Bool) → (b ≡ true → a ≡ true) → a ≡ false → b ≡ false
       awake true f e = opposed (f refl) e
       awake false f e = refl
-
-      and-false : (b : Bool) → (b && false) ≡ false
-      and-false true = refl
-      and-false false = refl
 
       none : isSleep (z .core .control .mode) ≡ false → x ≡ false
       none e = ap (λ (q : Bool). not (writesOne 0x004 4 s) && q) (awake (z .core .control .slaki) (p .core .control .slaki) e) ∙ and-false (not (writesOne 0x004 4 s))
@@ -516,7 +495,7 @@ module _ (z : Controller) (s : steps.Step) (h : Done z s) where
     sameMcr = λ t. after-mcr ∙ (same-mcr (z .core) (z .banks) s t ∙ sym (mcr-shown z));
     sleepFlag = sleep-flag p q;
     wakeUp = rw (shown-wkui y, shown-wkui z, done-core z s h) (rule-left d .wkui ∙ applied-wkui (z .core) (z .banks) s);
-    onWire = rw (shown-txm y, shown-txm z, after-free) (applied-wire (z .core) (z .banks) s (accepted z s h));
+    onWire = rw (txm-read y, txm-read z, after-free) (applied-wire (z .core) (z .banks) s (accepted z s h));
     timed = timed p q;
   }
 

@@ -2,18 +2,18 @@
 use mathlib.Core.Bool.{Bool, true, false, not, _&&_, false≢true}
 use mathlib.Core.Path.{_≡_, refl, sym, ap, _∙_}
 use Rattle.model.specs.Base.{pick}
-use Rattle.model.specs.Queue.{same, flag, flagged, holds, joined, without, isFrom, isNobody, noRequests, requested, emptied, remembered, aborted, abortedAll, sending, offWire}
+use Rattle.model.specs.Queue.{same, flag, flagged, holds, isFrom, isNobody, noRequests, requested, emptied, remembered, aborted, abortedAll, sending, offWire}
 use Rattle.model.specs.Mailboxes.{abortsPending}
-use Rattle.model.specs.Reachable.{distinct, carried, QueueRange}
+use Rattle.model.specs.Reachable.{distinct, QueueRange}
 use Rattle.model.specs.declared.Mailbox.{Mailbox}
 use Rattle.model.specs.declared.Mailbox.the-variants.{M0, M1, M2}
 use Rattle.model.specs.declared.Sender.{Sender}
 use Rattle.model.specs.declared.Sender.the-variants.{Nobody, From}
-use Rattle.model.specs.declared.RequestOrder.{RequestOrder}
 use Rattle.model.specs.declared.MailboxBits.{MailboxBits}
 use Rattle.model.specs.declared.Queue.{Queue}
 use Rattle.model.proofs.Choices.{pick-cases, opposed, Is-not}
-use Rattle.model.proofs.Orders.{distinct-without, distinct-joined, kept-without, kept-joined, gone-without, held-before-without, same-comm}
+use Rattle.model.proofs.Orders.{distinct-without, distinct-joined, gone-without, held-before-without}
+use Rattle.model.proofs.Views.{carried-without, carried-joined}
 
 -- ---- a bit of three set or cleared
 
@@ -59,14 +59,6 @@ cleared-off f M1 = refl
 cleared-off f M2 = refl
 
 -- ---- requests
-
-carried-without : (t : Sender) (o : RequestOrder) (m : Mailbox) → carried t o ≡ true → isFrom t m ≡ false → carried t (without o m) ≡ true
-carried-without Nobody o m h n = refl
-carried-without (From x) o m h n = kept-without o x m h (ap not (same-comm m x ∙ n))
-
-carried-joined : (t : Sender) (o : RequestOrder) (m : Mailbox) → carried t o ≡ true → carried t (joined o m) ≡ true
-carried-joined Nobody o m h = refl
-carried-joined (From x) o m h = kept-joined o x m h
 
 -- with a free wire no abort is remembered
 free-none : (t : Sender) (m : Mailbox) → isNobody t ≡ true → isFrom t m ≡ false

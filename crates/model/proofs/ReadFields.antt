@@ -1,5 +1,5 @@
 -- The bits that the table of the codes speaks of, in every state.
-use mathlib.Core.Bool.{Bool, true, false, not, _&&_, _||_, Bool·beq}
+use mathlib.Core.Bool.{Bool, true, false, not, _&&_, _||_, Bool·beq, Bool·not-not}
 use mathlib.Core.Path.{_≡_, refl, ap, _∙_}
 use Prim.Native.Nat.{ℕ, _+_}
 use Rattle.model.specs.Base.{bit, one}
@@ -18,7 +18,7 @@ use Rattle.model.specs.declared.Mode.{Mode}
 use Rattle.model.specs.declared.Mode.the-variants.{Sleep, Initialization, Normal}
 use Rattle.model.specs.declared.Bank.{Bank}
 use Rattle.model.specs.declared.Controller.{Controller}
-use Rattle.model.proofs.Choices.{beq-eq, not-not}
+use Rattle.model.proofs.Choices.{beq-eq}
 use Rattle.model.proofs.Orders.{each-order}
 use Rattle.model.proofs.ShownWords.{msr-shown, esr-shown, btr-shown, fmr-shown, fa1r-shown, msr-inak, msr-slak, msr-txm, esr-boff}
 use Rattle.model.proofs.StatusWord.{flags-shown}
@@ -53,13 +53,13 @@ module _ (z : Controller) where
   txm-read = ap (λ (w : ℕ). bit 8 w) (msr-shown z) ∙ msr-txm (z .core .control) (isFree (z .core))
 
   pub free-read : not (txm z) ≡ isFree (z .core)
-  free-read = ap not txm-read ∙ not-not (isFree (z .core))
+  free-read = ap not txm-read ∙ Bool·not-not (isFree (z .core))
 
   pub tme-read : (m : Mailbox) → read.tme m z ≡ not (hasRequest (z .core) m)
   tme-read m = flags-shown z m .tme
 
   pub held-read : (m : Mailbox) → not (read.tme m z) ≡ hasRequest (z .core) m
-  held-read m = ap not (tme-read m) ∙ not-not (hasRequest (z .core) m)
+  held-read m = ap not (tme-read m) ∙ Bool·not-not (hasRequest (z .core) m)
 
   pub pending-read : anyPending z ≡ not (isEmpty (z .core .transmit .queue .order))
   pending-read = (λ i. held-read M0 i || held-read M1 i || held-read M2 i) ∙ held-some (z .core .transmit .queue .order)

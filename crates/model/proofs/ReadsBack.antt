@@ -9,7 +9,7 @@ use lib.ListN.{getD-replicate}
 use borrow.Author.Tests.{eqb-true, eqb-false, ne-eqb, ltb-true}
 use Rattle.model.specs.Base.{pick, bit, bits, one}
 use Rattle.model.specs.Control.{awum, sleepCleared, entered, idled, counted, ticked, woken, errorsChanged, masterReset, mcrWritten, msrWritten, ierWritten, btrWritten, mcrMasked, ierMasked, btrMasked}
-use Rattle.model.specs.Registers.{registerAt, isAbsent, reset, coreReset, written, writeRefusal, readWord, isFree, filterMasked, bankWord, bankCount}
+use Rattle.model.specs.Registers.{registerAt, isAbsent, reset, coreReset, written, writeRefusal, readWord, filterMasked, bankWord, bankCount}
 use Rattle.model.specs.Step.{step, answered, refusal, wordOf, applied, settled, storedBy, startedBy, endedBy}
 use Rattle.model.specs.Codes.{offsetOf, IsPresent, reads}
 use Rattle.model.specs.ReadBack.{Accepts, afterWrite, Within, ReadBack, sets, Stays, OnlyWrites, has, ResetWords}
@@ -28,7 +28,8 @@ use Rattle.model.specs.declared.Step.the-variants.{Reset, Read, Write, I
 use Rattle.model.proofs.Choices.{pick-cases, or-l, or-r}
 use Rattle.model.proofs.Computed.{everything}
 use Rattle.model.proofs.MaskedBits.{next-bit, mcr-bits, ier-bits, btr-bits, filter-bits}
-use Rattle.model.proofs.RegisterAccess.{read-word, write-core, accepts, elsewhere, SameWords, settled-words, step-keeps}
+use Rattle.model.proofs.RegisterAccess.{read-word, write-core, accepts, elsewhere, step-keeps}
+use Rattle.model.proofs.DoneSteps.{rule-left}
 
 -- ---- read back
 
@@ -41,21 +42,17 @@ module _ (r : Register) (f : Core → ℕ) (p : IsPresent r) (a : isAbsent r ≡
   stays : (z : Controller) (s : steps.Step) → (step z s .code ≡ 0 → f (applied (z .core) (z .banks) s) ≡ f (z .core)) → Stays z s r
   stays z s h = read-word r (step z s .controller) p a ∙ word _ _ ∙ step-keeps f z s rule h ∙ sym (read-word r z p a ∙ word _ _)
 
-rule-words : (c : Core) → SameWords (c .control) (settled c .control)
-unfolding settled
-rule-words c = settled-words (c .control) (isFree c) _
-
 mcr-back : (z : Controller) (w : ℕ) → bit 15 w ≡ false → reads (afterWrite z Mcr w) Mcr ≡ mcrMasked w
 unfolding readWord written writeRefusal mcrWritten
-mcr-back z w h = back Mcr (λ c. c .control .mcr) tt refl (λ c v. refl) (λ c. rule-words c .mcr) z w (accepts Mcr z w tt refl) ∙ rw h
+mcr-back z w h = back Mcr (λ c. c .control .mcr) tt refl (λ c v. refl) (λ c. rule-left c .mcr) z w (accepts Mcr z w tt refl) ∙ rw h
 
 ier-back : (z : Controller) (w : ℕ) → reads (afterWrite z Ier w) Ier ≡ ierMasked w
 unfolding readWord written writeRefusal ierWritten
-ier-back z w = back Ier (λ c. c .control .ier) tt refl (λ c v. refl) (λ c. rule-words c .ier) z w (accepts Ier z w tt refl)
+ier-back z w = back Ier (λ c. c .control .ier) tt refl (λ c v. refl) (λ c. rule-left c .ier) z w (accepts Ier z w tt refl)
 
 btr-back : (z : Controller) (w : ℕ) → Accepts z Btr w → reads (afterWrite z Btr w) Btr ≡ btrMasked w
 unfolding readWord written btrWritten
-btr-back z w h = back Btr (λ c. c .control .btr) tt refl (λ c v. refl) (λ c. rule-words c .btr) z w h
+btr-back z w h = back Btr (λ c. c .control .btr) tt refl (λ c v. refl) (λ c. rule-left c .btr) z w h
 
 fmr-back : (z : Controller) (w : ℕ) → reads (afterWrite z Fmr w) Fmr ≡ 0x2A1C0E00 + one (bit 0 w)
 unfolding readWord written writeRefusal settled
@@ -215,9 +212,9 @@ only-writes z s =
     let u = applied-left s (z .core) (z .banks) in
     let k : reads (step z s .controller) Mcr ≡ step z s .controller .core .control .mcr = read-word Mcr (step z s .controller) tt refl in
     record {
-      mcr = λ h i n. ap (λ (w : ℕ). bit i w) k ∙ step-keeps (λ (c : Core). bit i (c .control .mcr)) z s (λ c. ap (λ (w : ℕ). bit i w) (rule-words c .mcr)) (λ _. u .mcr h i n) ∙ sym (ap (λ (w : ℕ). bit i w) (read-word Mcr z tt refl));
-      ier = λ h. stays Ier (λ c. c .control .ier) tt refl (λ c v. refl) (λ c. rule-words c .ier) z s (λ _. u .ier h);
-      btr = λ h. stays Btr (λ c. c .control .btr) tt refl (λ c v. refl) (λ c. rule-words c .btr) z s (λ _. u .btr h);
+      mcr = λ h i n. ap (λ (w : ℕ). bit i w) k ∙ step-keeps (λ (c : Core). bit i (c .control .mcr)) z s (λ c. ap (λ (w : ℕ). bit i w) (rule-left c .mcr)) (λ _. u .mcr h i n) ∙ sym (ap (λ (w : ℕ). bit i w) (read-word Mcr z tt refl));
+      ier = λ h. stays Ier (λ c. c .control .ier) tt refl (λ c v. refl) (λ c. rule-left c .ier) z s (λ _. u .ier h);
+      btr = λ h. stays Btr (λ c. c .control .btr) tt refl (λ c v. refl) (λ c. rule-left c .btr) z s (λ _. u .btr h);
       fmr = λ h. stays Fmr (λ c. 0x2A1C0E00 + one (c .filters .finit)) tt refl (λ c v. refl) (λ c. refl) z s (λ _. ap (λ (b : Bool). 0x2A1C0E00 + one b) (u .fmr h));
       fm1r = λ h. stays Fm1r (λ c. c .filters .mode) tt refl (λ c v. refl) (λ c. refl) z s (λ _. u .fm1r h);
       fs1r = λ h. stays Fs1r (λ c. c .filters .scale) tt refl (λ c v. refl) (λ c. refl) z s (λ _. u .fs1r h);

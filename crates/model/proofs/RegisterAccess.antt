@@ -9,7 +9,6 @@ use Rattle.model.specs.Base.{pick}
 use Rattle.model.specs.Queue.{number, isEmpty}
 use Rattle.model.specs.Mailboxes.{identifiers, sooner, firstInWireOrder, first, firstOf, started}
 use Rattle.model.specs.Control.{txfp}
-use Rattle.model.specs.Control as control
 use Rattle.model.specs.Registers.{registerAt, isAbsent, written, writeRefusal, readWord, withTransmit}
 use Rattle.model.specs.Step.{step, answered, coreAfter, refusal, wordOf, applied, settled, startedBy, mayStart}
 use Rattle.model.specs.Codes.{offsetOf, IsPresent, reads}
@@ -20,7 +19,6 @@ use Rattle.model.specs.declared.Sender.the-variants.{From}
 use Rattle.model.specs.declared.RequestOrder.{RequestOrder}
 use Rattle.model.specs.declared.RequestOrder.the-variants.{Empty, One, Two, Three}
 use Rattle.model.specs.declared.Identifiers.{Identifiers}
-use Rattle.model.specs.declared.Control as controls
 use Rattle.model.specs.declared.Core.{Core}
 use Rattle.model.specs.declared.Controller.{Controller}
 use Rattle.model.specs.declared.Register.{Register}
@@ -54,19 +52,6 @@ pub elsewhere : {A : Type 0} (o : ℕ) (r : Register) → registerAt o ≡ r →
 elsewhere o r e a n =
     let k : offsetOf r ≡ o = ap offsetOf (sym e) ∙ map .only o (ap isAbsent e ∙ a) in
     opposed (eq-eqb o (offsetOf r) (sym k)) n
-
--- ---- the mode rule
-
--- it leaves the words
-pub record SameWords (k d : controls.Control) : Type 0 where
-  pub mcr : d .mcr ≡ k .mcr
-  pub ier : d .ier ≡ k .ier
-  pub btr : d .btr ≡ k .btr
-
-pub settled-words : (k : controls.Control) (free off : Bool) → SameWords k (control.settled k free off)
-unfolding control.settled control.entered
-settled-words k true off = record { mcr = refl; ier = refl; btr = refl }
-settled-words k false off = record { mcr = refl; ier = refl; btr = refl }
 
 -- what a step leaves it leaves whether it is accepted or not
 pub step-keeps : {A : Type 0} (f : Core → A) (z : Controller) (s : steps.Step) → ((c : Core) → f (settled c) ≡ f c)

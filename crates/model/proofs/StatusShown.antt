@@ -1,8 +1,9 @@
 -- CODE and LOW in the words of priority.
-use mathlib.Core.Bool.{Bool, true, false, not, true≢false, false≢true}
+use mathlib.Core.Bool.{Bool, true, false, not, false≢true}
 use mathlib.Core.Path.{_≡_, refl, sym, ap, _∙_}
 use Prim.Native.Nat.{_<_, _≤_}
 use native.Mathlib.Omega.{arith}
+use borrow.Author.Tests.{not-false}
 use lib.ListN.{length}
 use Rattle.model.specs.Queue.{number, holds, without, isFrom, isEmpty, twoOrMore, besides, orderNumbers, senderNumbers}
 use Rattle.model.specs.Mailboxes.{identifiers, lastOf, tme, low, code}
@@ -40,10 +41,6 @@ two-some (From y) o d h = Is-not _ (imp-Is (imp-Is (each-of (λ o y. imp (distin
 
 three-two : (o : RequestOrder) → holds o M0 ≡ true → holds o M1 ≡ true → holds o M2 ≡ true → twoOrMore o ≡ true
 three-two o a b c = imp-Is (imp-Is (imp-Is (each-order (λ o. imp (holds o M0) (imp (holds o M1) (imp (holds o M2) (twoOrMore o)))) refl o) a) b) c
-
-not-false : (b : Bool) → not b ≡ false → b ≡ true
-not-false true h = refl
-not-false false h = absurd (true≢false h)
 
 two-long : (o : RequestOrder) → twoOrMore o ≡ true → 2 ≤ length (orderNumbers o)
 two-long Empty h = absurd (false≢true h)

@@ -44,7 +44,8 @@ use Rattle.model.proofs.Views.{View, viewNext}
 use Rattle.model.proofs.Follows.{viewOf, follows}
 use Rattle.model.proofs.RegisterAccess.{write-core, accepts, accepted, elsewhere, step-keeps}
 use Rattle.model.proofs.WordsKept.{put-there, put-field, number-eq}
-use Rattle.model.proofs.Arbitrated.{pending-by, each-of, has-wire, same-self, mcr-read}
+use Rattle.model.proofs.Arbitrated.{pending-by, each-of, has-wire, same-self}
+use Rattle.model.proofs.ShownWords.{mcr-shown}
 use Rattle.model.proofs.StatusWord.{flags-shown}
 
 -- ---- lists of numbers, by computed tests
@@ -365,7 +366,7 @@ own-end z m r i f h =
     let e : y .core .transmit ≡ ended t m r n = ended-after z m r w h in
     let x : MailboxState = outcomeFlags (at (t .mailboxes) m) r b in
     let p : at (y .core .transmit .mailboxes) m ≡ x = ap (λ (x : Transmit). at (x .mailboxes) m) e ∙ put-there (t .mailboxes) m x in
-    let k : endsRequest z m r ≡ b = ap₂ (λ (u v : Bool). eqb r 0 || u || v) (ap (λ (w : ℕ). bit 4 w) (mcr-read z)) (flags-shown z m .abrq) in
+    let k : endsRequest z m r ≡ b = ap₂ (λ (u v : Bool). eqb r 0 || u || v) (ap (λ (w : ℕ). bit 4 w) (mcr-shown z)) (flags-shown z m .abrq) in
     let held : holds (t .queue .order) m ≡ true = ap (λ (v : Sender). carried v (t .queue .order)) (sym w) ∙ i .core .transmit .queue .carries in
     let none : at (t .mailboxes) m .rqcp ≡ false = i .core .transmit .pending m held in
     let v = flags-shown y m in

@@ -1,14 +1,13 @@
 -- The timer is what the events say.
-use mathlib.Core.Bool.{Bool, true, false, _&&_, false≢true}
+use mathlib.Core.Bool.{Bool, true, false, _&&_, false≢true, and-true}
 use mathlib.Core.Path.{_≡_, refl, sym, ap, _∙_}
 use mathlib.Core.List.{List, [], _∷_}
-use Prim.Native.Nat.{ℕ, _+_, _*_, _/_, _%_, _^_, _<_}
+use Prim.Native.Nat.{ℕ, _+_, _%_, _<_}
 use native.Mathlib.Omega.{arith}
 use lib.Dec.{eqb}
-use Rattle.model.specs.Base.{pick, bit, bits}
-use Rattle.model.specs.Control.{ttcm, isNormal, boff, idled, counted, entered, errorsChanged, ticked, woken, controlReset, masterReset, mcrMasked, mcrWritten, msrWritten, ierWritten, btrWritten}
-use Rattle.model.specs.Control as control
-use Rattle.model.specs.Registers.{registerAt, reset, coreReset, written, isFree, withControl}
+use Rattle.model.specs.Base.{pick, bit}
+use Rattle.model.specs.Control.{ttcm, isNormal, idled, counted, entered, errorsChanged, ticked, woken, controlReset, masterReset, mcrWritten, msrWritten, ierWritten, btrWritten}
+use Rattle.model.specs.Registers.{registerAt, reset, coreReset, written, withControl}
 use Rattle.model.specs.Step.{step, answered, coreAfter, refusal, applied, settled, storedBy, startedBy, endedBy}
 use Rattle.model.specs.Requests.{after}
 use Rattle.model.specs.Reachable.{InRange, StepRange, StepsRange}
@@ -17,7 +16,6 @@ use Rattle.model.specs.Shown.{bitTimes}
 use Rattle.model.specs.declared.Sender.{Sender}
 use Rattle.model.specs.declared.Sender.the-variants.{Nobody, From}
 use Rattle.model.specs.declared.Fifo.the-variants.{F0, F1}
-use Rattle.model.specs.declared.Control as controls
 use Rattle.model.specs.declared.Core.{Core}
 use Rattle.model.specs.declared.Controller.{Controller}
 use Rattle.model.specs.declared.Register.{Register}
@@ -25,18 +23,12 @@ use Rattle.model.specs.declared.Register.the-variants.{Mcr, Msr, Tsr, Rf
 use Rattle.model.specs.declared.Step as steps
 use Rattle.model.specs.declared.Step.the-variants.{Reset, Read, Write, Idle, BitTimes, Activity, Start, Outcome, Receive, ReceiveError}
 use Rattle.model.proofs.Choices.{Is, Not}
-use Rattle.model.proofs.BusErrors.{and-true}
 use Rattle.model.proofs.HistoryReads.{code-is}
 use Rattle.model.proofs.ShownWords.{mcr-shown}
 use Rattle.model.proofs.ReadFields.{normal-read}
 use Rattle.model.proofs.Reached.{step-in-range}
-
--- TTCM comes through the mask of MCR
-ttcm-masked : (w : ℕ) → bit 7 (mcrMasked w) ≡ bit 7 w
-ttcm-masked w = ap (λ (n : ℕ). eqb n 1) digit
-  where
-    digit : (bits 16 1 w * 65536 + w % 256) / 2 ^ 7 % 2 ≡ w / 2 ^ 7 % 2
-    digit = omega arith
+use Rattle.model.proofs.Masks.{ttcm-masked}
+use Rattle.model.proofs.DoneSteps.{rule-left}
 
 -- a write leaves it, where TTCM is 1 after the write
 written-timer : (r : Register) (c : Core) (w : ℕ) → Is (ttcm (written r c w .control)) → written r c w .control .timer ≡ c .control .timer
@@ -100,25 +92,11 @@ applied-timer c b (Outcome r) l h = end-timer (c .transmit .queue .transmitting)
 applied-timer c b (Receive x) l h = still (isNormal (c .control .mode)) (c .control .timer) l
 applied-timer c b (ReceiveError k n) l h = still (isNormal (c .control .mode)) (c .control .timer) l
 
--- the mode rule leaves MCR and the timer
-record Left (k d : controls.Control) : Type 0 where
-  mcr : d .mcr ≡ k .mcr
-  timer : d .timer ≡ k .timer
-
-mode-rule : (k : controls.Control) (free off : Bool) → Left k (control.settled k free off)
-unfolding control.settled entered
-mode-rule k true off = record { mcr = refl; timer = refl }
-mode-rule k false off = record { mcr = refl; timer = refl }
-
-settled-left : (d : Core) → Left (d .control) (settled d .control)
-unfolding settled
-settled-left d = mode-rule (d .control) (isFree d) (boff (d .errors))
-
 -- u: TTCM after the step
 by-code : (ok u : Bool) (c d : Core) (x : ℕ) → ttcm (pick ok (settled d) c .control) ≡ u → (Not u → pick ok (settled d) c .control .timer ≡ 0) → (Is (ttcm (d .control)) → d .control .timer ≡ pick (isNormal (c .control .mode)) x (c .control .timer))
     → pick ok (settled d) c .control .timer ≡ pick (ttcm (pick ok (settled d) c .control)) (pick (ok && isNormal (c .control .mode)) x (c .control .timer)) 0
 by-code ok false c d x e z h = rw e (z refl)
-by-code true true c d x e z h = rw e (settled-left d .timer ∙ h (ap (λ (w : ℕ). bit 7 w) (sym (settled-left d .mcr)) ∙ e))
+by-code true true c d x e z h = rw e (rule-left d .timer ∙ h (ap (λ (w : ℕ). bit 7 w) (sym (rule-left d .mcr)) ∙ e))
 by-code false true c d x e z h = rw e
 
 known-timer : (z : Controller) (s : steps.Step) → InRange z → StepRange s

@@ -81,7 +81,7 @@ aborted-sound b q m g =
     (λ _. pick-cases Sound (isFrom (q .transmitting) m) _ _ (λ _. record { once = g .once; wired = g .wired }) (λ n. emptied-sound q m g n))
     (λ _. g)
 
-carried-joined : (w : Sender) (o : RequestOrder) (x : Mailbox) → Is (carried w o) → Is (carried w (joined o x))
+pub carried-joined : (w : Sender) (o : RequestOrder) (x : Mailbox) → Is (carried w o) → Is (carried w (joined o x))
 carried-joined Nobody o x h = refl
 carried-joined (From m) o x h = kept-joined o m x h
 

@@ -4,15 +4,14 @@ use mathlib.Core.Path.{_≡_, refl, sym, subst, ap, _∙_}
 use mathlib.Core.List.{List, [], _∷_}
 use Prim.Native.Nat.{ℕ, _+_, _*_, _/_}
 use lib.Dec.{eqb}
-use borrow.Author.Tests.{eqb-true}
 use Rattle.model.specs.Base.{pick, bit}
 use Rattle.model.specs.Mailboxes.{at}
 use Rattle.model.specs.Search.{acceptance}
-use Rattle.model.specs.Reception.{storedFrame, sentFrame, goesInto, fmiOf, received, rfrWritten}
+use Rattle.model.specs.Reception.{storedFrame, sentFrame, goesInto, fmiOf, received, rfrWritten, emptyFifo}
 use Rattle.model.specs.Control.{rflm, lbkm, controlReset}
-use Rattle.model.specs.Registers.{registerAt, bankCount, reset, coreReset, written, fifoOf, withErrors}
+use Rattle.model.specs.Registers.{registerAt, bankCount, reset, written, fifoOf, withErrors}
 use Rattle.model.specs.Step.{step, answered, coreAfter, refusal, applied, settled, storedBy, startedBy, endedBy, loopedBack}
-use Rattle.model.specs.Requests.{next, event, entry, after}
+use Rattle.model.specs.Requests.{after}
 use Rattle.model.specs.Reachable.{InRange, StepsRange}
 use Rattle.model.specs.History.{Traffic, none, empties, releases, arrives, arrival, writeTraffic, endTraffic, stepTraffic, traffic, filtered, waitingNext, waitingFrom, frames}
 use Rattle.model.specs.Shown.{shown, fifoNumber}
@@ -30,95 +29,33 @@ use Rattle.model.specs.declared.Control as controls
 use Rattle.model.specs.declared.Errors.{Errors}
 use Rattle.model.specs.declared.Core.{Core}
 use Rattle.model.specs.declared.Controller.{Controller}
-use Rattle.model.specs.declared.Register.{Register}
-use Rattle.model.specs.declared.Register.the-variants.{Mcr, Msr, Tsr, Rfr, Ier, Esr, Btr, Ti, Tdt, Tdl, Tdh, Ri, Rdt, Rdl, Rdh, Fmr, Fm1r, Fs1r, Ffa1r, Fa1r, R1, R2, Absent}
 use Rattle.model.specs.declared.Step as steps
 use Rattle.model.specs.declared.Step.the-variants.{Reset, Read, Write, Idle, BitTimes, Activity, Start, Outcome, Receive, ReceiveError}
-use Rattle.model.proofs.Mapped.{map}
-use Rattle.model.proofs.Views.{requestsOf, requests-follow}
-use Rattle.model.proofs.Follows.{viewOf, follows}
+use Rattle.model.proofs.Views.{requestsOf}
+use Rattle.model.proofs.Follows.{viewOf}
 use Rattle.model.proofs.Arrivals.{Holds, no-frame, holds-received, holds-written}
 use Rattle.model.proofs.HistoryReads.{frame-read, filtered-read}
-use Rattle.model.proofs.RegisterAccess.{elsewhere}
 use Rattle.model.proofs.ShownWords.{mcr-shown, btr-shown, tdt-shown}
 use Rattle.model.proofs.ReadFields.{finit-read}
 use Rattle.model.proofs.Reached.{reset-in-range, step-in-range}
 use Rattle.model.proofs.Timing.{step-timer}
+use Rattle.model.proofs.Fair.{good, step-requests}
+use Rattle.model.proofs.WriteTargets.{fifo-written}
 
 abbrev Keeps : Fifo → Core → Core → Traffic → Type 0
 Keeps f c d x = (l : List StoredFrame) → Holds (fifoOf f c) l → Holds (fifoOf f d) (waitingNext l x)
 
 -- ---- writes
 
-other-writes : (f : Fifo) (r : Register) (c : Core) (w : ℕ) → (r ≡ Mcr → ⊥) → (r ≡ Rfr f → ⊥) → fifoOf f (written r c w) ≡ fifoOf f c
-unfolding written
-other-writes f Mcr c w m e = absurd (m refl)
-other-writes F0 (Rfr F0) c w m e = absurd (e refl)
-other-writes F0 (Rfr F1) c w m e = refl
-other-writes F1 (Rfr F0) c w m e = refl
-other-writes F1 (Rfr F1) c w m e = absurd (e refl)
-other-writes F0 Msr c w m e = refl
-other-writes F1 Msr c w m e = refl
-other-writes F0 Tsr c w m e = refl
-other-writes F1 Tsr c w m e = refl
-other-writes F0 Ier c w m e = refl
-other-writes F1 Ier c w m e = refl
-other-writes F0 Esr c w m e = refl
-other-writes F1 Esr c w m e = refl
-other-writes F0 Btr c w m e = refl
-other-writes F1 Btr c w m e = refl
-other-writes F0 (Ti x) c w m e = refl
-other-writes F1 (Ti x) c w m e = refl
-other-writes F0 (Tdt x) c w m e = refl
-other-writes F1 (Tdt x) c w m e = refl
-other-writes F0 (Tdl x) c w m e = refl
-other-writes F1 (Tdl x) c w m e = refl
-other-writes F0 (Tdh x) c w m e = refl
-other-writes F1 (Tdh x) c w m e = refl
-other-writes F0 (Ri g) c w m e = refl
-other-writes F1 (Ri g) c w m e = refl
-other-writes F0 (Rdt g) c w m e = refl
-other-writes F1 (Rdt g) c w m e = refl
-other-writes F0 (Rdl g) c w m e = refl
-other-writes F1 (Rdl g) c w m e = refl
-other-writes F0 (Rdh g) c w m e = refl
-other-writes F1 (Rdh g) c w m e = refl
-other-writes F0 Fmr c w m e = refl
-other-writes F1 Fmr c w m e = refl
-other-writes F0 Fm1r c w m e = refl
-other-writes F1 Fm1r c w m e = refl
-other-writes F0 Fs1r c w m e = refl
-other-writes F1 Fs1r c w m e = refl
-other-writes F0 Ffa1r c w m e = refl
-other-writes F1 Ffa1r c w m e = refl
-other-writes F0 Fa1r c w m e = refl
-other-writes F1 Fa1r c w m e = refl
-other-writes F0 (R1 b) c w m e = refl
-other-writes F1 (R1 b) c w m e = refl
-other-writes F0 (R2 b) c w m e = refl
-other-writes F1 (R2 b) c w m e = refl
-other-writes F0 Absent c w m e = refl
-other-writes F1 Absent c w m e = refl
-
-mcr-write : (b : Bool) (f : Fifo) (c d : Core) → fifoOf f d ≡ fifoOf f c → Keeps f c (pick b (coreReset c) d) (pick b empties none)
-unfolding coreReset
-mcr-write true F0 c d e l h = no-frame refl
-mcr-write true F1 c d e l h = no-frame refl
-mcr-write false f c d e l h = rw e h
-
-rfr-write : (f : Fifo) (c : Core) (w : ℕ) → Keeps f c (written (Rfr f) c w) (pick (bit 5 w) releases none)
-unfolding written rfrWritten
-rfr-write F0 c w = λ l h. holds-written (bit 5 w) (c .fifo0) l w h
-rfr-write F1 c w = λ l h. holds-written (bit 5 w) (c .fifo1) l w h
-
--- m: MCR; e: this FIFO's RFxR
-write-keeps : (m e : Bool) (f : Fifo) (o : ℕ) (c : Core) (w : ℕ) → eqb o 0x000 ≡ m → eqb o (0x00C + 4 * fifoNumber f) ≡ e → Keeps f c (written (registerAt o) c w) (writeTraffic f o w)
-unfolding written
-write-keeps true e F0 o c w p q = λ l h. rw (eqb-true o 0x000 p, map .found Mcr tt) (mcr-write (bit 15 w) F0 c _ refl l h)
-write-keeps true e F1 o c w p q = λ l h. rw (eqb-true o 0x000 p, map .found Mcr tt) (mcr-write (bit 15 w) F1 c _ refl l h)
-write-keeps false true F0 o c w p q = λ l h. rw (eqb-true o 0x00C q, map .found (Rfr F0) tt) (rfr-write F0 c w l h)
-write-keeps false true F1 o c w p q = λ l h. rw (eqb-true o 0x010 q, map .found (Rfr F1) tt) (rfr-write F1 c w l h)
-write-keeps false false f o c w p q = λ l h. rw (p, q, other-writes f (registerAt o) c w (λ e. elsewhere o Mcr e refl p) (λ e. elsewhere o (Rfr f) e refl q)) h
+write-keeps : (f : Fifo) (o : ℕ) (c : Core) (w : ℕ) → Keeps f c (written (registerAt o) c w) (writeTraffic f o w)
+unfolding rfrWritten
+write-keeps f o c w l h = rw (fifo-written f o c w) (go (eqb o 0x000 && bit 15 w) (eqb o (0x00C + 4 * fifoNumber f)))
+  where
+    -- m: MCR with bit 15 set; e: this FIFO's RFxR
+    go : (m e : Bool) → Holds (pick m emptyFifo (pick e (rfrWritten (fifoOf f c) w) (fifoOf f c))) (waitingNext l (pick m empties (pick (e && bit 5 w) releases none)))
+    go true e = no-frame refl
+    go false true = holds-written (bit 5 w) (fifoOf f c) l w h
+    go false false = h
 
 -- ---- arrivals
 
@@ -177,7 +114,7 @@ module _ (z : Controller) (i : InRange z) where
 
 -- ---- every step
 
-start-keeps : (f : Fifo) (v : Sender) (c : Core) → fifoOf f (startedBy v c) ≡ fifoOf f c
+pub start-keeps : (f : Fifo) (v : Sender) (c : Core) → fifoOf f (startedBy v c) ≡ fifoOf f c
 unfolding startedBy
 start-keeps f Nobody c = refl
 start-keeps F0 (From m) c = refl
@@ -189,7 +126,7 @@ unfolding applied reset
 applied-keeps F0 z Reset i = λ l h. no-frame refl
 applied-keeps F1 z Reset i = λ l h. no-frame refl
 applied-keeps f z (Read o) i = λ l h. h
-applied-keeps f z (Write o w) i = write-keeps (eqb o 0x000) (eqb o (0x00C + 4 * fifoNumber f)) f o (z .core) w refl refl
+applied-keeps f z (Write o w) i = write-keeps f o (z .core) w
 applied-keeps F0 z Idle i = λ l h. h
 applied-keeps F1 z Idle i = λ l h. h
 applied-keeps F0 z (BitTimes n) i = λ l h. h
@@ -204,7 +141,7 @@ applied-keeps f z (Receive x) i =
 applied-keeps F0 z (ReceiveError k n) i = λ l h. h
 applied-keeps F1 z (ReceiveError k n) i = λ l h. h
 
-settled-fifo : (f : Fifo) (c : Core) → fifoOf f (settled c) ≡ fifoOf f c
+pub settled-fifo : (f : Fifo) (c : Core) → fifoOf f (settled c) ≡ fifoOf f c
 unfolding settled
 settled-fifo F0 c = refl
 settled-fifo F1 c = refl
@@ -218,12 +155,6 @@ step-keeps : (f : Fifo) (z : Controller) (s : steps.Step) (l : List StoredFrame)
 unfolding step answered coreAfter
 step-keeps f z s l i h = by-code (eqb (refusal (z .core) s) 0) f (z .core) _ _ (applied-keeps f z s i) l h
 
--- the requests as the observer has them
-step-requests : (z : Controller) (s : steps.Step) → InRange z → next (requestsOf (viewOf (z .core))) (event (entry s (step z s))) ≡ requestsOf (viewOf (step z s .controller .core))
-step-requests z s i =
-    requests-follow (viewOf (z .core)) (event (entry s (step z s))) (record { once = i .core .transmit .queue .once; wired = i .core .transmit .queue .carries }) (follows z s .granted)
-    ∙ ap requestsOf (sym (follows z s .view))
-
 abbrev framesFrom : Fifo → List StoredFrame → Controller → List steps.Step → List StoredFrame
 framesFrom f l z r = waitingFrom f l (z .core .control .timer) (requestsOf (viewOf (z .core))) z r
 
@@ -233,7 +164,7 @@ unfolding after waitingFrom
 holds-from f l z [] i h k = k
 holds-from f l z (s ∷ r) i h k =
     subst (λ (x : List StoredFrame). Holds (fifoOf f (after (step z s .controller) r .core)) x)
-    (λ j. waitingFrom f (waitingNext l (traffic f (z .core .control .timer) (z .core .transmit .queue .transmitting) z s)) (step-timer z s i (h .0) j) (sym (step-requests z s i) j) (step z s .controller) r)
+    (λ j. waitingFrom f (waitingNext l (traffic f (z .core .control .timer) (z .core .transmit .queue .transmitting) z s)) (step-timer z s i (h .0) j) (sym (step-requests z s (good z i)) j) (step z s .controller) r)
     (holds-from f _ (step z s .controller) r (step-in-range z s i (h .0)) (h .1) (step-keeps f z s l i k))
 
 pub holds-reset : (f : Fifo) (l : List steps.Step) → StepsRange l → Holds (fifoOf f (after reset l .core)) (frames f reset l)

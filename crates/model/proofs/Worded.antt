@@ -1,5 +1,5 @@
 -- The word of a step: 0 but for a read and a start, which says the mailbox whose frame goes on the wire.
-use mathlib.Core.Bool.{true, false, not, true≢false}
+use mathlib.Core.Bool.{true, false, not, true≢false, _||_}
 use mathlib.Core.Path.{_≡_, refl, sym, subst, ap, _∙_}
 use Prim.Native.Nat.{ℕ, zero, suc, _+_, _≤_}
 use native.Mathlib.Omega.{arith}
@@ -10,11 +10,10 @@ use Rattle.model.specs.Mailboxes.{firstOf}
 use Rattle.model.specs.Control.{txfp}
 use Rattle.model.specs.Step.{step, answered, wordOf, refusal}
 use Rattle.model.specs.Requests.{starts, event, entry}
-use Rattle.model.specs.Codes.{offsetOf, isReadOrStart, StepWords}
-use Rattle.model.specs.Shown.{shown, txm, tme}
+use Rattle.model.specs.Codes.{StepWords}
+use Rattle.model.specs.Shown.{tsr, txm, tme, isRead, isStart}
 use Rattle.model.specs.declared.Mailbox.{Mailbox}
 use Rattle.model.specs.declared.Controller.{Controller}
-use Rattle.model.specs.declared.Register.the-variants.{Tsr}
 use Rattle.model.specs.declared.Step as steps
 use Rattle.model.specs.declared.Step.the-variants.{Reset, Read, Write, Idle, BitTimes, Activity, Start, Outcome, Receive, ReceiveError}
 use Rattle.model.proofs.ReadFields.{txm-read, tme-read}
@@ -23,7 +22,7 @@ use Rattle.model.proofs.Choices.{pick-cases}
 use Rattle.model.proofs.Views.{View, viewNext, Granted}
 use Rattle.model.proofs.Follows.{viewOf, follows}
 
-no-word : (z : Controller) (s : steps.Step) → isReadOrStart s ≡ false → wordOf (z .core) (z .banks) s ≡ 0
+no-word : (z : Controller) (s : steps.Step) → isRead s || isStart s ≡ false → wordOf (z .core) (z .banks) s ≡ 0
 unfolding wordOf
 no-word z Reset h = refl
 no-word z (Read o) h = absurd (true≢false h)
@@ -43,7 +42,7 @@ number-numbered (suc (suc zero)) h = refl
 number-numbered (suc (suc (suc n))) h = absurd (omega arith)
 
 module _ (z : Controller) where
-  word-none : (s : steps.Step) → isReadOrStart s ≡ false → step z s .word ≡ 0
+  word-none : (s : steps.Step) → isRead s || isStart s ≡ false → step z s .word ≡ 0
   unfolding step answered
   word-none s h = pick-cases (λ (w : ℕ). w ≡ 0) (eqb (refusal (z .core) s) 0) _ _ (λ _. no-word z s h) (λ _. refl)
 
@@ -71,6 +70,6 @@ pub step-words : (z : Controller) → StepWords z
 step-words z = record {
   none = word-none z;
   mailbox = start-small z;
-  pending = λ h. ap (λ (n : ℕ). bit (26 + n) (shown z (offsetOf Tsr))) (sym (number-numbered (step z Start .word) (start-small z))) ∙ start-held z h;
+  pending = λ h. ap (λ (n : ℕ). bit (26 + n) (tsr z)) (sym (number-numbered (step z Start .word) (start-small z))) ∙ start-held z h;
   onWire = start-on z;
 }

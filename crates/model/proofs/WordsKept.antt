@@ -1,5 +1,5 @@
 -- The words of a mailbox read back; only a write to a word, a reset and, for TIME, a start change them.
-use mathlib.Core.Bool.{Bool, true, false, not, true≢false, false≢true}
+use mathlib.Core.Bool.{Bool, true, false, not, true≢false, false≢true, Bool·not-not}
 use mathlib.Core.List.{List}
 use mathlib.Core.Path.{_≡_, refl, sym, ap, subst, _∙_}
 use Prim.Native.Nat.{ℕ, suc, _+_, _*_, _/_, _%_, _^_, _<_}
@@ -11,7 +11,7 @@ use Rattle.model.specs.Queue.{number, holds}
 use Rattle.model.specs.Mailboxes.{at, put, withWords, tiWritten, tdtWritten, tdlWritten, tdhWritten, tdtMasked, requestedBy, cleared, completed, tsrWritten, started, outcomeFlags, ended}
 use Rattle.model.specs.Registers.{registerAt, isAbsent, coreReset, written}
 use Rattle.model.specs.Step.{step, answered, coreAfter, refusal, applied, settled, storedBy, startedBy, endedBy}
-use Rattle.model.specs.Shown.{ti, tme}
+use Rattle.model.specs.Shown.{ti, tme, isStart}
 use Rattle.model.specs.Codes.{offsetOf}
 use Rattle.model.specs.ReadBack.{Accepts, afterWrite, Within, sets}
 use Rattle.model.specs.MailboxWords.{MailboxWords, starts, MailboxStays}
@@ -28,7 +28,7 @@ use Rattle.model.specs.declared.Register.{Register}
 use Rattle.model.specs.declared.Register.the-variants.{Mcr, Msr, Tsr, Rfr, Ier, Esr, Btr, Ti, Tdt, Tdl, Tdh, Ri, Rdt, Rdl, Rdh, Fmr, Fm1r, Fs1r, Ffa1r, Fa1r, R1, R2, Absent}
 use Rattle.model.specs.declared.Step as steps
 use Rattle.model.specs.declared.Step.the-variants.{Reset, Read, Write, Idle, BitTimes, Activity, Start, Outcome, Receive, ReceiveError}
-use Rattle.model.proofs.Choices.{not-not, pick-cases, and-l, and-r, opposed, one-le, one-bit}
+use Rattle.model.proofs.Choices.{pick-cases, and-l, and-r, opposed, one-le, one-bit}
 use Rattle.model.proofs.MaskedBits.{tdt-bits, next-bit}
 use Rattle.model.proofs.RegisterAccess.{write-core, elsewhere, step-keeps, Starts, start-accepted}
 use Rattle.model.proofs.StatusWord.{flags-shown}
@@ -73,7 +73,7 @@ txrq-read : (z : Controller) (m : Mailbox) → bit 0 (ti m z) ≡ not (tme m z)
 txrq-read z m =
     ap (λ (w : ℕ). bit 0 w) (ti-shown m z)
     ∙ lower-bit (at (z .core .transmit .mailboxes) m .ti) (holds (z .core .transmit .queue .order) m)
-    ∙ sym (not-not (holds (z .core .transmit .queue .order) m))
+    ∙ sym (Bool·not-not (holds (z .core .transmit .queue .order) m))
     ∙ ap not (sym (flags-shown z m .tme))
 
 -- ---- read back
@@ -118,18 +118,6 @@ mailbox-words z m w = record {
 
 abbrev box : Core → Mailbox → MailboxState
 box c m = at (c .transmit .mailboxes) m
-
-abbrev isStart : steps.Step → Bool
-isStart Reset = false
-isStart (Read o) = false
-isStart (Write o w) = false
-isStart Idle = false
-isStart (BitTimes n) = false
-isStart Activity = false
-isStart Start = true
-isStart (Outcome r) = false
-isStart (Receive x) = false
-isStart (ReceiveError k n) = false
 
 record Unchanged (x y : MailboxState) : Type 0 where
   ti : y .ti ≡ x .ti
@@ -230,6 +218,9 @@ written-left Fa1r o c w m e = same (Write o w) m (box c m)
 written-left (R1 b) o c w m e = same (Write o w) m (box c m)
 written-left (R2 b) o c w m e = same (Write o w) m (box c m)
 written-left Absent o c w m e = same (Write o w) m (box c m)
+
+pub tdt-kept : (o : ℕ) (c : Core) (w : ℕ) (m : Mailbox) → eqb o (offsetOf (Tdt m)) ≡ false → box (written (registerAt o) c w) m .tdt ≡ box c m .tdt
+tdt-kept o c w m h = written-left (registerAt o) o c w m refl .tdt h refl
 
 timed : (x t : ℕ) → (x % 65536 + t * 65536) % 65536 ≡ x % 65536
 timed x t = omega arith

@@ -1,19 +1,18 @@
 -- A write to the register at an offset: what it changes of the control words, the error counters, the FIFOs and the frame on the wire.
-use mathlib.Core.Bool.{Bool, true, false, not, _&&_, _||_, false≢true}
+use mathlib.Core.Bool.{Bool, true, false, not, _&&_, _||_, false≢true, and-comm}
 use mathlib.Core.Path.{_≡_, refl, sym, ap, _∙_}
 use Prim.Native.Nat.{ℕ, _+_, _*_}
 use native.Mathlib.Omega.{arith}
 use lib.Dec.{eqb, ltb}
 use borrow.Author.Tests.{eqb-true, eqb-false, eq-eqb}
 use Rattle.model.specs.Base.{pick, bit}
-use Rattle.model.specs.Queue.{holds, isFrom, aborted, abortedAll}
+use Rattle.model.specs.Queue.{abortedAll}
 use Rattle.model.specs.Mailboxes.{requestedBy, tsrWritten}
 use Rattle.model.specs.Reception.{emptyFifo, rfrWritten}
 use Rattle.model.specs.Control.{masterReset, mcrWritten, msrWritten, ierWritten, btrWritten, esrWritten}
 use Rattle.model.specs.Registers.{registerAt, controlRegister, isAbsent, written, coreReset, fifoOf, withControl}
 use Rattle.model.specs.Codes.{offsetOf}
 use Rattle.model.specs.Shown.{fifoNumber}
-use Rattle.model.specs.declared.Mailbox.{Mailbox}
 use Rattle.model.specs.declared.Sender.{Sender}
 use Rattle.model.specs.declared.Sender.the-variants.{Nobody}
 use Rattle.model.specs.declared.Queue.{Queue}
@@ -25,6 +24,7 @@ use Rattle.model.specs.declared.Register.{Register}
 use Rattle.model.specs.declared.Register.the-variants.{Mcr, Msr, Tsr, Rfr, Ier, Esr, Btr, Ti, Tdt, Tdl, Tdh, Ri, Rdt, Rdl, Rdh, Fmr, Fm1r, Fs1r, Ffa1r, Fa1r, R1, R2, Absent}
 use Rattle.model.proofs.Choices.{pick-cases}
 use Rattle.model.proofs.Mapped.{map}
+use Rattle.model.proofs.QueueRanges.{aborted-wire}
 
 -- ---- which of the first eight registers an offset names
 
@@ -187,12 +187,6 @@ pub record FlagsWritten (o : ℕ) (k : Control) (w : ℕ) : Type 0 where
   pub wkui : controlWritten o k w .wkui ≡ (not (wiped o 3 w) && k .wkui)
   pub slaki : controlWritten o k w .slaki ≡ (not (wiped o 4 w) && k .slaki)
 
-and-swap : (x y : Bool) → (x && y) ≡ (y && x)
-and-swap true true = refl
-and-swap true false = refl
-and-swap false true = refl
-and-swap false false = refl
-
 pub flags-written : (o : ℕ) (k : Control) (w : ℕ) → FlagsWritten o k w
 unfolding masterReset mcrWritten msrWritten ierWritten btrWritten
 flags-written o k w = go (eqb o 0x000) (eqb o 0x004) (bit 15 w) (eqb o 0x014) (eqb o 0x01C) refl refl refl refl refl
@@ -204,7 +198,7 @@ flags-written o k w = go (eqb o 0x000) (eqb o 0x004) (bit 15 w) (eqb o 0x014) (e
     go true true m i j p q r s t = absurd (two-offsets p q)
     go true false true i j p q r s t = record { erri = rw (p, r); wkui = rw (p, r); slaki = rw (p, r) }
     go true false false i j p q r s t = record { erri = rw (p, q, r); wkui = rw (p, q, r); slaki = rw (p, q, r) }
-    go false true m i j p q r s t = record { erri = rw (p, q) (and-swap (k .erri) (not (bit 2 w))); wkui = rw (p, q) (and-swap (k .wkui) (not (bit 3 w))); slaki = rw (p, q) (and-swap (k .slaki) (not (bit 4 w))) }
+    go false true m i j p q r s t = record { erri = rw (p, q) (and-comm (k .erri) (not (bit 2 w))); wkui = rw (p, q) (and-comm (k .wkui) (not (bit 3 w))); slaki = rw (p, q) (and-comm (k .slaki) (not (bit 4 w))) }
     go false false m true j p q r s t = record { erri = rw (p, q, s); wkui = rw (p, q, s); slaki = rw (p, q, s) }
     go false false m false true p q r s t = record { erri = rw (p, q, s, t); wkui = rw (p, q, s, t); slaki = rw (p, q, s, t) }
     go false false m false false p q r s t = record { erri = rw (p, q, s, t); wkui = rw (p, q, s, t); slaki = rw (p, q, s, t) }
@@ -239,65 +233,45 @@ errors-by Absent c w = refl
 pub errors-written : (o : ℕ) (c : Core) (w : ℕ) → written (registerAt o) c w .errors ≡ pick (eqb o 0x018) (esrWritten (c .errors) w) (c .errors)
 errors-written o c w = rw (esr-named o) (errors-by (registerAt o) c w)
 
+both-by : (r : Register) (c : Core) (w : ℕ)
+    → (written r c w .fifo0 ≡ pick (eqb (place r) 0 && bit 15 w) emptyFifo (pick (eqb (place r) 3) (rfrWritten (c .fifo0) w) (c .fifo0)))
+    × (written r c w .fifo1 ≡ pick (eqb (place r) 0 && bit 15 w) emptyFifo (pick (eqb (place r) 4) (rfrWritten (c .fifo1) w) (c .fifo1)))
+unfolding written coreReset
+both-by Mcr c w = go (bit 15 w)
+  where
+    go : (b : Bool)
+        → (pick b (coreReset c) (withControl c (mcrWritten (c .control) w)) .fifo0 ≡ pick b emptyFifo (c .fifo0))
+        × (pick b (coreReset c) (withControl c (mcrWritten (c .control) w)) .fifo1 ≡ pick b emptyFifo (c .fifo1))
+    go true = (refl, refl)
+    go false = (refl, refl)
+both-by Msr c w = (refl, refl)
+both-by Tsr c w = (refl, refl)
+both-by (Rfr F0) c w = (refl, refl)
+both-by (Rfr F1) c w = (refl, refl)
+both-by Ier c w = (refl, refl)
+both-by Esr c w = (refl, refl)
+both-by Btr c w = (refl, refl)
+both-by (Ti m) c w = (refl, refl)
+both-by (Tdt m) c w = (refl, refl)
+both-by (Tdl m) c w = (refl, refl)
+both-by (Tdh m) c w = (refl, refl)
+both-by (Ri f) c w = (refl, refl)
+both-by (Rdt f) c w = (refl, refl)
+both-by (Rdl f) c w = (refl, refl)
+both-by (Rdh f) c w = (refl, refl)
+both-by Fmr c w = (refl, refl)
+both-by Fm1r c w = (refl, refl)
+both-by Fs1r c w = (refl, refl)
+both-by Ffa1r c w = (refl, refl)
+both-by Fa1r c w = (refl, refl)
+both-by (R1 b) c w = (refl, refl)
+both-by (R2 b) c w = (refl, refl)
+both-by Absent c w = (refl, refl)
+
 fifo-by : (f : Fifo) (r : Register) (c : Core) (w : ℕ)
     → fifoOf f (written r c w) ≡ pick (eqb (place r) 0 && bit 15 w) emptyFifo (pick (eqb (place r) (3 + fifoNumber f)) (rfrWritten (fifoOf f c) w) (fifoOf f c))
-unfolding written coreReset
-fifo-by F0 Mcr c w = go (bit 15 w)
-  where
-    go : (b : Bool) → pick b (coreReset c) (withControl c (mcrWritten (c .control) w)) .fifo0 ≡ pick b emptyFifo (c .fifo0)
-    go true = refl
-    go false = refl
-fifo-by F0 Msr c w = refl
-fifo-by F0 Tsr c w = refl
-fifo-by F0 (Rfr F0) c w = refl
-fifo-by F0 (Rfr F1) c w = refl
-fifo-by F0 Ier c w = refl
-fifo-by F0 Esr c w = refl
-fifo-by F0 Btr c w = refl
-fifo-by F0 (Ti m) c w = refl
-fifo-by F0 (Tdt m) c w = refl
-fifo-by F0 (Tdl m) c w = refl
-fifo-by F0 (Tdh m) c w = refl
-fifo-by F0 (Ri f) c w = refl
-fifo-by F0 (Rdt f) c w = refl
-fifo-by F0 (Rdl f) c w = refl
-fifo-by F0 (Rdh f) c w = refl
-fifo-by F0 Fmr c w = refl
-fifo-by F0 Fm1r c w = refl
-fifo-by F0 Fs1r c w = refl
-fifo-by F0 Ffa1r c w = refl
-fifo-by F0 Fa1r c w = refl
-fifo-by F0 (R1 b) c w = refl
-fifo-by F0 (R2 b) c w = refl
-fifo-by F0 Absent c w = refl
-fifo-by F1 Mcr c w = go (bit 15 w)
-  where
-    go : (b : Bool) → pick b (coreReset c) (withControl c (mcrWritten (c .control) w)) .fifo1 ≡ pick b emptyFifo (c .fifo1)
-    go true = refl
-    go false = refl
-fifo-by F1 Msr c w = refl
-fifo-by F1 Tsr c w = refl
-fifo-by F1 (Rfr F0) c w = refl
-fifo-by F1 (Rfr F1) c w = refl
-fifo-by F1 Ier c w = refl
-fifo-by F1 Esr c w = refl
-fifo-by F1 Btr c w = refl
-fifo-by F1 (Ti m) c w = refl
-fifo-by F1 (Tdt m) c w = refl
-fifo-by F1 (Tdl m) c w = refl
-fifo-by F1 (Tdh m) c w = refl
-fifo-by F1 (Ri f) c w = refl
-fifo-by F1 (Rdt f) c w = refl
-fifo-by F1 (Rdl f) c w = refl
-fifo-by F1 (Rdh f) c w = refl
-fifo-by F1 Fmr c w = refl
-fifo-by F1 Fm1r c w = refl
-fifo-by F1 Fs1r c w = refl
-fifo-by F1 Ffa1r c w = refl
-fifo-by F1 Fa1r c w = refl
-fifo-by F1 (R1 b) c w = refl
-fifo-by F1 (R2 b) c w = refl
-fifo-by F1 Absent c w = refl
+fifo-by F0 r c w = both-by r c w .0
+fifo-by F1 r c w = both-by r c w .1
 
 pub fifo-written : (f : Fifo) (o : ℕ) (c : Core) (w : ℕ)
     → fifoOf f (written (registerAt o) c w)
@@ -308,12 +282,6 @@ fifo-written f o c w = rw (mcr-named o, rfr-named f o) (fifo-by f (registerAt o)
 
 abbrev wire : Core → Sender
 wire c = c .transmit .queue .transmitting
-
-aborted-wire : (b : Bool) (q : Queue) (m : Mailbox) → aborted b q m .transmitting ≡ q .transmitting
-unfolding aborted
-aborted-wire b q m =
-    pick-cases (λ (p : Queue). p .transmitting ≡ q .transmitting) (b && holds (q .order) m) _ _
-    (λ _. pick-cases (λ (p : Queue). p .transmitting ≡ q .transmitting) (isFrom (q .transmitting) m) _ _ (λ _. refl) (λ _. refl)) (λ _. refl)
 
 wire-by : (r : Register) (c : Core) (w : ℕ) → wire (written r c w) ≡ pick (eqb (place r) 0 && bit 15 w) Nobody (wire c)
 unfolding written coreReset tsrWritten abortedAll requestedBy

@@ -6,6 +6,7 @@ use Prim.Native.Nat.{ℕ, _-_, _≤_}
 use Rattle.model.specs.Control.{nart, txfp}
 use Rattle.model.specs.Registers.{reset, hasRequest}
 use Rattle.model.specs.Step.{step}
+use Rattle.model.specs.Shown.{Done, nextOf}
 use Rattle.model.specs.Requests.{Requests, noneYet, after}
 use Rattle.model.specs.Fairness.{Fairness, requestsFrom}
 use Rattle.model.specs.Reachable.{InRange, StepsRange}
@@ -59,11 +60,11 @@ pub record FromState (z : Controller) (l : List steps.Step) : Type 0 where
 
 -- a hardware reset is accepted in every state, and nothing of that state is left: no request either
 pub record HardwareReset (z : Controller) : Type 0 where
-  pub controller : step z Reset .controller ≡ reset
-  pub code : step z Reset .code ≡ 0
+  pub controller : nextOf z Reset ≡ reset
+  pub code : Done z Reset
   pub lines : step z Reset .lines ≡ 0
   pub word : step z Reset .word ≡ 0
-  pub requests : requestsHeld (step z Reset .controller) ≡ noneYet
+  pub requests : requestsHeld (nextOf z Reset) ≡ noneYet
 
 -- the controller after the steps before, from any controller z, and a hardware reset
 abbrev pub atReset : Controller → List steps.Step → Controller

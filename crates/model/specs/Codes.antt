@@ -8,7 +8,7 @@ use Rattle.model.specs.Base.{bit, bits}
 use Rattle.model.specs.Queue.{number}
 use Rattle.model.specs.Registers.{registerAt, isAbsent, bankCount}
 use Rattle.model.specs.Step.{step, linesOf}
-use Rattle.model.specs.Shown.{fifoNumber, shown, tsr, inak, slak, inNormal, txm, tme, boff, lbkm, silm, finit, fact, Done, nextOf}
+use Rattle.model.specs.Shown.{fifoNumber, shown, tsr, inak, slak, inNormal, txm, tme, boff, lbkm, silm, finit, fact, Done, nextOf, writes, isRead, isStart}
 use Rattle.model.specs.declared.Mailbox.the-variants.{M0, M1, M2}
 use Rattle.model.specs.declared.Controller.{Controller}
 use Rattle.model.specs.declared.Register.{Register}
@@ -131,16 +131,7 @@ isOutput Absent = false
 
 -- 3: write to a receive mailbox word
 abbrev pub writesOutput : steps.Step → Bool
-writesOutput Reset = false
-writesOutput (Read o) = false
-writesOutput (Write o w) = isOutput (registerAt o)
-writesOutput Idle = false
-writesOutput (BitTimes n) = false
-writesOutput Activity = false
-writesOutput Start = false
-writesOutput (Outcome r) = false
-writesOutput (Receive x) = false
-writesOutput (ReceiveError k n) = false
+writesOutput = writes (λ o w. isOutput (registerAt o))
 
 -- BTR while INAK=0; a mailbox that isn't empty; FM1R, FS1R or FFA1R while FINIT=0; a bank's value while FINIT=0 and that bank is active
 abbrev pub isLocked : Register → Controller → Bool
@@ -170,16 +161,7 @@ isLocked Absent z = false
 
 -- 2: write to a locked register
 abbrev pub writesLocked : steps.Step → Controller → Bool
-writesLocked Reset z = false
-writesLocked (Read o) z = false
-writesLocked (Write o w) z = isLocked (registerAt o) z
-writesLocked Idle z = false
-writesLocked (BitTimes n) z = false
-writesLocked Activity z = false
-writesLocked Start z = false
-writesLocked (Outcome r) z = false
-writesLocked (Receive x) z = false
-writesLocked (ReceiveError k n) z = false
+writesLocked s z = writes (λ o w. isLocked (registerAt o) z) s
 
 -- 5: event field out of range. Bit times 1 to 65535; an own end 0 to 7; a frame whose identifier word has bit 0, a standard one
 -- with extended bits, a length code above 15; a receive error's code 1 to 6 and step 1 or 8
@@ -237,28 +219,16 @@ pub record Codes (z : Controller) (s : steps.Step) : Type 0 where
 
 -- what a refusal is: the word 0, the same state, the lines of that state
 pub record Refused (z : Controller) (s : steps.Step) : Type 0 where
-  pub kept : step z s .controller ≡ z
+  pub kept : nextOf z s ≡ z
   pub word : step z s .word ≡ 0
   pub lines : step z s .lines ≡ linesOf (z .core)
 
 -- ---- the word
 
-abbrev pub isReadOrStart : steps.Step → Bool
-isReadOrStart Reset = false
-isReadOrStart (Read o) = true
-isReadOrStart (Write o w) = false
-isReadOrStart Idle = false
-isReadOrStart (BitTimes n) = false
-isReadOrStart Activity = false
-isReadOrStart Start = true
-isReadOrStart (Outcome r) = false
-isReadOrStart (Receive x) = false
-isReadOrStart (ReceiveError k n) = false
-
 -- the word is 0 but for a read and a start; that of a start is the number of a mailbox that isn't empty, which TSR shows by
 -- TME=0, and its frame is then on the wire, which MSR shows by TXM=1
 pub record StepWords (z : Controller) : Type 0 where
-  pub none : (s : steps.Step) → isReadOrStart s ≡ false → step z s .word ≡ 0
+  pub none : (s : steps.Step) → isRead s || isStart s ≡ false → step z s .word ≡ 0
   pub mailbox : step z Start .word ≤ 2
   pub pending : Done z Start → bit (26 + step z Start .word) (tsr z) ≡ false
   pub onWire : Done z Start → txm (nextOf z Start) ≡ true

@@ -10,7 +10,7 @@ use Rattle.model.specs.Banks.{bank, firstNumber}
 use Rattle.model.specs.Registers.{reset, bankCount}
 use Rattle.model.specs.Step.{step}
 use Rattle.model.specs.Requests.{after}
-use Rattle.model.specs.Shown.{shown, esr, boff, rec, timer}
+use Rattle.model.specs.Shown.{shown, esr, boff, rec, timer, nextOf}
 use Rattle.model.specs.declared.Fifo.the-variants.{F0}
 use Rattle.model.specs.declared.Filters.{Filters}
 use Rattle.model.specs.declared.Frame.{Frame}
@@ -110,11 +110,11 @@ busOff = withCounters 256 0 (after reset (normal 0x40))
 abbrev pub table : List Example
 table =
     -- TEC 247 and an error: 255, still on. 248: bus-off, the field shown 0
-    example (tecField (step (withCounters 247 0 (after reset transmitting)) (Outcome 1) .controller) ∷ boffField (step (withCounters 247 0 (after reset transmitting)) (Outcome 1) .controller) ∷ []) (255 ∷ 0 ∷ [])
-    ∷ example (tecField (step (withCounters 248 0 (after reset transmitting)) (Outcome 1) .controller) ∷ boffField (step (withCounters 248 0 (after reset transmitting)) (Outcome 1) .controller) ∷ []) (0 ∷ 1 ∷ [])
+    example (tecField (nextOf (withCounters 247 0 (after reset transmitting)) (Outcome 1)) ∷ boffField (nextOf (withCounters 247 0 (after reset transmitting)) (Outcome 1)) ∷ []) (255 ∷ 0 ∷ [])
+    ∷ example (tecField (nextOf (withCounters 248 0 (after reset transmitting)) (Outcome 1)) ∷ boffField (nextOf (withCounters 248 0 (after reset transmitting)) (Outcome 1)) ∷ []) (0 ∷ 1 ∷ [])
     -- REC 129 becomes 120; 128, 127
-    ∷ example (rec (step (withCounters 0 129 (after reset (listening 0))) (Receive (frame 0 0)) .controller) ∷ []) (120 ∷ [])
-    ∷ example (rec (step (withCounters 0 128 (after reset (listening 0))) (Receive (frame 0 0)) .controller) ∷ []) (127 ∷ [])
+    ∷ example (rec (nextOf (withCounters 0 129 (after reset (listening 0))) (Receive (frame 0 0))) ∷ []) (120 ∷ [])
+    ∷ example (rec (nextOf (withCounters 0 128 (after reset (listening 0))) (Receive (frame 0 0))) ∷ []) (127 ∷ [])
     -- timer 65535 plus 1 is 0; plus 65535 is 65534
     ∷ example (timer (after reset (normal 0x80 ++ BitTimes 65535 ∷ BitTimes 1 ∷ [])) ∷ []) (0 ∷ [])
     ∷ example (timer (after reset (normal 0x80 ++ BitTimes 65535 ∷ BitTimes 65535 ∷ [])) ∷ []) (65534 ∷ [])

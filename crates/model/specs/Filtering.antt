@@ -1,5 +1,5 @@
 -- What document 01, "Order, filters, storage", says of the filters: the bits that they look at, the words that they take, their order and
--- numbers, what the registers show of them, and which filter a frame passes.
+-- numbers, which filter a frame passes, and what the registers show of them. "Register map": the banks' words read back.
 -- n is the number of banks, v their words R1 and R2 in turn, w a frame's identifier word.
 use mathlib.Core.Bool.{Bool, true, false}
 use mathlib.Core.List.{List, [], _∷_}
@@ -184,7 +184,7 @@ pub record Filtering (n : ℕ) (g : Filters) (v : List ℕ) (w : ℕ) : Type 0 w
 -- ---- what the registers show
 
 -- what makes a filter of a bank match stands in FA1R, FFA1R, FS1R, FM1R, and in the bank's R1 and R2
-pub record Shown (z : Controller) (b : Bank) : Type 0 where
+pub record BankShown (z : Controller) (b : Bank) : Type 0 where
   pub active : isActive (z .core .filters) b ≡ fact b z
   pub fifo : (f : Fifo) → (belongs f (z .core .filters) b ≡ true) ↔ (bits (b .0) 1 (ffa1r z) ≡ fifoNumber f)
   pub scale : scaleBit (classOf (z .core .filters) b) ≡ bit (b .0) (fs1r z)

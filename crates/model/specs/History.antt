@@ -15,7 +15,7 @@ use Rattle.model.specs.Reception.{storedFrame}
 use Rattle.model.specs.Registers.{bankCount}
 use Rattle.model.specs.Step.{step}
 use Rattle.model.specs.Requests.{Requests, noneYet, next, event, entry, after}
-use Rattle.model.specs.Shown.{shown, esr, fm1r, fs1r, ffa1r, fa1r, ri, rdt, rdl, rdh, ti, tdt, tdl, tdh, rflm, abom, ttcm, inak, inNormal, fmp, boff, lec, rec, lbkm, finit, tec, timer, isDone, nextOf, bitTimes, fifoNumber}
+use Rattle.model.specs.Shown.{shown, esr, fm1r, fs1r, ffa1r, fa1r, ri, rdt, rdl, rdh, ti, tdt, tdl, tdh, rflm, abom, ttcm, inak, inNormal, fmp, boff, lec, rec, lbkm, finit, tec, timer, isDone, nextOf, bitTimes, resets, fifoNumber}
 use Rattle.model.specs.declared.Mailbox.{Mailbox}
 use Rattle.model.specs.declared.Sender.{Sender}
 use Rattle.model.specs.declared.Sender.the-variants.{Nobody, From}
@@ -101,7 +101,7 @@ arrival f Rejected x time locked = none
 
 -- MCR with bit 15 set; RFxR with RFOM
 abbrev pub writeTraffic : Fifo → ℕ → ℕ → Traffic
-writeTraffic f o w = pick (eqb o 0x000 && bit 15 w) empties (pick (eqb o (0x00C + 4 * fifoNumber f) && bit 5 w) releases none)
+writeTraffic f o w = pick (resets (Write o w)) empties (pick (eqb o (0x00C + 4 * fifoNumber f) && bit 5 w) releases none)
 
 -- a good end with LBKM=1 and FINIT=0: the frame of the mailbox on the wire arrives, with the mailbox's TIME
 abbrev pub endTraffic : Fifo → Sender → Controller → ℕ → Traffic
@@ -205,7 +205,7 @@ writeCounted a o w = record {
   tec = a .tec;
   rec = a .rec;
   lec = pick (eqb o 0x018 && eqb (bits 4 3 w) 7) 7 (a .lec);
-  idles = pick (eqb o 0x000 && bit 15 w) 0 (a .idles);
+  idles = pick (resets (Write o w)) 0 (a .idles);
   reinitialized = a .reinitialized;
 }
 

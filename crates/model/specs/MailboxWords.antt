@@ -7,7 +7,7 @@ use lib.Dec.{eqb}
 use Rattle.model.specs.Base.{bit, bits}
 use Rattle.model.specs.Queue.{number}
 use Rattle.model.specs.Step.{step}
-use Rattle.model.specs.Shown.{tme, timer, isDone, nextOf}
+use Rattle.model.specs.Shown.{tme, timer, isDone, nextOf, isStart}
 use Rattle.model.specs.Codes.{reads}
 use Rattle.model.specs.ReadBack.{Accepts, afterWrite, Within, sets, Stays}
 use Rattle.model.specs.Reachable.{InRange}
@@ -15,7 +15,6 @@ use Rattle.model.specs.declared.Mailbox.{Mailbox}
 use Rattle.model.specs.declared.Controller.{Controller}
 use Rattle.model.specs.declared.Register.the-variants.{Ti, Tdt, Tdl, Tdh}
 use Rattle.model.specs.declared.Step as steps
-use Rattle.model.specs.declared.Step.the-variants.{Reset, Read, Write, Idle, BitTimes, Activity, Start, Outcome, Receive, ReceiveError}
 
 -- an accepted write to a word of mailbox m: "Writable bits: .. TDT 0xFFFF010F", all of TDL and TDH, TI but for TXRQ
 pub record MailboxWords (z : Controller) (m : Mailbox) (w : ℕ) : Type 0 where
@@ -26,16 +25,7 @@ pub record MailboxWords (z : Controller) (m : Mailbox) (w : ℕ) : Type 0 where
 
 -- the step is an accepted start of mailbox m: its word is the mailbox's number
 abbrev pub starts : Controller → steps.Step → Mailbox → Bool
-starts z Reset m = false
-starts z (Read o) m = false
-starts z (Write o w) m = false
-starts z Idle m = false
-starts z (BitTimes n) m = false
-starts z Activity m = false
-starts z Start m = isDone z Start && eqb (step z Start .word) (number m)
-starts z (Outcome r) m = false
-starts z (Receive x) m = false
-starts z (ReceiveError k n) m = false
+starts z s m = isStart s && isDone z s && eqb (step z s .word) (number m)
 
 -- the words of mailbox m, and what a step does to them
 pub record MailboxStays (z : Controller) (s : steps.Step) (m : Mailbox) : Type 0 where

@@ -1,18 +1,18 @@
 -- What was written to a register reads back within its writable bits, and only a write to it, or a reset, changes it.
 -- Document 01: "Register map" (hardware reset, writable bits). A register is meant by its offset.
-use mathlib.Core.Bool.{Bool, true, false, _&&_, _||_}
+use mathlib.Core.Bool.{Bool, false, _&&_, _||_}
 use mathlib.Core.List.{List, [], _∷_}
 use mathlib.Core.Path.{_≡_}
 use Prim.Native.Nat.{ℕ, _+_}
 use lib.Dec.{eqb}
 use Rattle.model.specs.Base.{bit, bits}
-use Rattle.model.specs.Shown.{shown, Done, nextOf}
+use Rattle.model.specs.Shown.{shown, Done, nextOf, writes, isHardwareReset}
 use Rattle.model.specs.Codes.{offsetOf, reads}
 use Rattle.model.specs.declared.Controller.{Controller}
 use Rattle.model.specs.declared.Register.{Register}
 use Rattle.model.specs.declared.Register.the-variants.{Mcr, Msr, Tsr, Ier, Btr, Fmr, Fm1r, Fs1r, Ffa1r, Fa1r}
 use Rattle.model.specs.declared.Step as steps
-use Rattle.model.specs.declared.Step.the-variants.{Reset, Read, Write, Idle, BitTimes, Activity, Start, Outcome, Receive, ReceiveError}
+use Rattle.model.specs.declared.Step.the-variants.{Reset, Write}
 
 -- ---- accesses
 
@@ -44,16 +44,7 @@ pub record ReadBack (z : Controller) (w : ℕ) : Type 0 where
 
 -- the step is a hardware reset or a write to the register
 abbrev pub sets : steps.Step → Register → Bool
-sets Reset r = true
-sets (Read o) r = false
-sets (Write o w) r = eqb o (offsetOf r)
-sets Idle r = false
-sets (BitTimes n) r = false
-sets Activity r = false
-sets Start r = false
-sets (Outcome n) r = false
-sets (Receive x) r = false
-sets (ReceiveError k n) r = false
+sets s r = isHardwareReset s || writes (λ o w. eqb o (offsetOf r)) s
 
 -- the register reads after the step as it did before
 abbrev pub Stays : Controller → steps.Step → Register → Type 0

@@ -1,5 +1,5 @@
 -- What register reads show of a controller, and the words in which the laws of single steps are said.
--- Document 01: "Register map". Bit places are those of 000.
+-- Document 01: "Register map", "Bench script" (tags). Bit places are those of 000.
 use mathlib.Core.Bool.{Bool, false, not, _&&_, _||_}
 use mathlib.Core.Path.{_≡_}
 use Prim.Native.Nat.{ℕ, _+_, _*_}
@@ -260,22 +260,29 @@ isDone z s = eqb (step z s .code) 0
 abbrev pub nextOf : Controller → steps.Step → Controller
 nextOf z s = step z s .controller
 
+-- the step is a write whose offset and word meet p
+abbrev pub writes : (ℕ → ℕ → Bool) → steps.Step → Bool
+writes p Reset = false
+writes p (Read o) = false
+writes p (Write o w) = p o w
+writes p Idle = false
+writes p (BitTimes n) = false
+writes p Activity = false
+writes p Start = false
+writes p (Outcome r) = false
+writes p (Receive x) = false
+writes p (ReceiveError k n) = false
+
 -- the step writes 1 to bit i of the register at offset o
 abbrev pub writesOne : ℕ → ℕ → steps.Step → Bool
-writesOne o i Reset = false
-writesOne o i (Read p) = false
-writesOne o i (Write p w) = eqb p o && bit i w
-writesOne o i Idle = false
-writesOne o i (BitTimes n) = false
-writesOne o i Activity = false
-writesOne o i Start = false
-writesOne o i (Outcome r) = false
-writesOne o i (Receive x) = false
-writesOne o i (ReceiveError k n) = false
+writesOne o i = writes (λ p w. eqb p o && bit i w)
 
 -- which step it is, by the tag of its record ("Bench script")
 abbrev pub isHardwareReset : steps.Step → Bool
 isHardwareReset s = eqb (stepTag s) 0x01
+
+abbrev pub isRead : steps.Step → Bool
+isRead s = eqb (stepTag s) 0x02
 
 abbrev pub isIdle : steps.Step → Bool
 isIdle s = eqb (stepTag s) 0x04
