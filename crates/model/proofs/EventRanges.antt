@@ -172,7 +172,7 @@ module _ (c : Core) (r : CoreRange c) where
 
   -- ---- a frame, a receive error
 
-  pub receive-range : (a : Acceptance) (x : Frame) → fmiOf a < 4 * bankCount → x .identifier < 2 ^ 32 → x .low < 2 ^ 32 → x .high < 2 ^ 32 → malformed x ≡ false → mayReceive c ≡ true
+  pub receive-range : (a : Acceptance) (x : Frame) → fmiOf a .0 < 4 * bankCount → x .identifier < 2 ^ 32 → x .low < 2 ^ 32 → x .high < 2 ^ 32 → malformed x ≡ false → mayReceive c ≡ true
       → CoreRange (withErrors (storedBy c a x (c .control .timer)) (c .control) (receivedErrors (c .errors)))
   unfolding storedBy receivedErrors
   receive-range a x f i l h ok may =
@@ -195,13 +195,13 @@ module _ (c : Core) (r : CoreRange c) where
 
   -- ---- an own end
 
-  looped-back-fmi : (v : List ℕ) (m : Mailbox) (n : ℕ) → ((w : ℕ) → fmiOf (acceptance bankCount (c .filters) v w) < 4 * bankCount) → fmiOf (loopedBack c v m n) < 4 * bankCount
+  looped-back-fmi : (v : List ℕ) (m : Mailbox) (n : ℕ) → ((w : ℕ) → fmiOf (acceptance bankCount (c .filters) v w) .0 < 4 * bankCount) → fmiOf (loopedBack c v m n) .0 < 4 * bankCount
   unfolding loopedBack
   looped-back-fmi v m n small =
-      pick-cases (λ (a : Acceptance). fmiOf a < 4 * bankCount) (eqb n 0 && lbkm (c .control) && not (c .filters .finit)) _ _ (λ _. small _) (λ _. omega arith)
+      pick-cases (λ (a : Acceptance). fmiOf a .0 < 4 * bankCount) (eqb n 0 && lbkm (c .control) && not (c .filters .finit)) _ _ (λ _. small _) (λ _. omega arith)
 
   -- the frame that loopback stores, with the mailbox's TIME
-  looped-frame-range : (a : Acceptance) (m : Mailbox) → fmiOf a < 4 * bankCount
+  looped-frame-range : (a : Acceptance) (m : Mailbox) → fmiOf a .0 < 4 * bankCount
       → FrameRange (storedFrame (sentFrame (at (c .transmit .mailboxes) m)) (fmiOf a) (at (c .transmit .mailboxes) m .tdt / 65536))
   unfolding sentFrame
   looped-frame-range a m f =
@@ -210,7 +210,7 @@ module _ (c : Core) (r : CoreRange c) where
       let e : tdtMasked (x .tdt) ≡ x .tdt = k .tdt in
       stored-range (sentFrame x) (fmiOf a) (x .tdt / 65536) (sent-range x k) (k .tdl) (k .tdh) (omega arith) f (omega arith)
 
-  end-by : (s : Sender) (v : List ℕ) (n : ℕ) → c .transmit .queue .transmitting ≡ s → ((w : ℕ) → fmiOf (acceptance bankCount (c .filters) v w) < 4 * bankCount)
+  end-by : (s : Sender) (v : List ℕ) (n : ℕ) → c .transmit .queue .transmitting ≡ s → ((w : ℕ) → fmiOf (acceptance bankCount (c .filters) v w) .0 < 4 * bankCount)
       → n ≤ 7 → isFree c ≡ false → CoreRange (endedBy s c v n)
   unfolding endedBy storedBy
   end-by Nobody v n e small l busy = r
@@ -230,7 +230,7 @@ module _ (c : Core) (r : CoreRange c) where
       (errors-changed-recovery-range (c .control) (c .errors) (r .recovery) d coded (r .wire .normal busy) (r .wire .on busy))
       (free-wire-range _ (ended-free (c .transmit) m n (nart (c .control))))
 
-  pub end-range : (v : List ℕ) (n : ℕ) → ((w : ℕ) → fmiOf (acceptance bankCount (c .filters) v w) < 4 * bankCount) → ltb 7 n ≡ false → mayEnd c n ≡ true
+  pub end-range : (v : List ℕ) (n : ℕ) → ((w : ℕ) → fmiOf (acceptance bankCount (c .filters) v w) .0 < 4 * bankCount) → ltb 7 n ≡ false → mayEnd c n ≡ true
       → CoreRange (endedBy (c .transmit .queue .transmitting) c v n)
   unfolding mayEnd
   end-range v n small l may = end-by _ v n refl small (ltb-false _ _ l) (not-true (isFree c) (and-l (not (isFree c)) (not (eqb n 3 && lbkm (c .control))) may))

@@ -87,22 +87,22 @@ no-frame-range = record {
   high = refl;
 }
 
-data-bytes-stored : (x : Frame) (fmi time : ℕ) → (x .length + fmi * 256 + time * 65536) % 16 ≡ x .length → dataBytes (frameOf (storedFrame x fmi time)) ≡ dataBytes x
+data-bytes-stored : (x : Frame) (fmi : FilterNumber) (time : ℕ) → (x .length + fmi .0 * 256 + time * 65536) % 16 ≡ x .length → dataBytes (frameOf (storedFrame x fmi time)) ≡ dataBytes x
 unfolding dataBytes storedFrame
 data-bytes-stored x fmi time e = rw e
 
-pub stored-range : (x : Frame) (fmi time : ℕ) → IdentifierRange (x .identifier) → x .low < 2 ^ 32 → x .high < 2 ^ 32 → x .length < 16
-    → fmi < 4 * bankCount → time < 65536 → FrameRange (storedFrame x fmi time)
+pub stored-range : (x : Frame) (fmi : FilterNumber) (time : ℕ) → IdentifierRange (x .identifier) → x .low < 2 ^ 32 → x .high < 2 ^ 32 → x .length < 16
+    → fmi .0 < 4 * bankCount → time < 65536 → FrameRange (storedFrame x fmi time)
 unfolding storedFrame
 stored-range x fmi time i l h n f t =
-    let w : ℕ = x .length + fmi * 256 + time * 65536 in
-    let e : bits 8 8 w ≡ fmi = field 256 256 w time fmi (x .length) (omega arith) (omega arith) (omega arith) in
+    let w : ℕ = x .length + fmi .0 * 256 + time * 65536 in
+    let e : bits 8 8 w ≡ fmi .0 = field 256 256 w time (fmi .0) (x .length) (omega arith) (omega arith) (omega arith) in
     let d : dataBytes (frameOf (storedFrame x fmi time)) ≡ dataBytes x
-    = data-bytes-stored x fmi time (lowest 16 w (fmi * 16 + time * 4096) (x .length) (omega arith) n) in
+    = data-bytes-stored x fmi time (lowest 16 w (fmi .0 * 16 + time * 4096) (x .length) (omega arith) n) in
     record {
       ri = i;
       rdt = omega arith;
-      reserved = field 16 16 w (fmi + time * 256) 0 (x .length) (omega arith) n (omega arith);
+      reserved = field 16 16 w (fmi .0 + time * 256) 0 (x .length) (omega arith) n (omega arith);
       fmi = rw e f;
       rdl = bytes-kept-word (dataBytes x) (x .low) l;
       rdh = bytes-kept-word (dataBytes x - 4) (x .high) h;
@@ -206,6 +206,6 @@ rfr-written-range q w r =
 
 -- ---- the filter number
 
-pub fmi-of-range : (a : Acceptance) → ((f : Fifo) (x : FilterNumber) → a ≡ Into f x → x .0 < 4 * bankCount) → fmiOf a < 4 * bankCount
+pub fmi-of-range : (a : Acceptance) → ((f : Fifo) (x : FilterNumber) → a ≡ Into f x → x .0 < 4 * bankCount) → fmiOf a .0 < 4 * bankCount
 fmi-of-range (Into f x) h = h f x refl
 fmi-of-range Rejected h = omega arith

@@ -27,6 +27,7 @@ use Rattle.model.specs.declared.Fifo.the-variants.{F0, F1}
 use Rattle.model.specs.declared.StoredFrame.{StoredFrame}
 use Rattle.model.specs.declared.FifoState.{FifoState}
 use Rattle.model.specs.declared.Frame.{Frame}
+use Rattle.model.specs.declared.FilterNumber.{FilterNumber}
 use Rattle.model.specs.declared.Acceptance.{Acceptance}
 use Rattle.model.specs.declared.Acceptance.the-variants.{Into, Rejected}
 use Rattle.model.specs.declared.Filters.{Filters}
@@ -162,19 +163,19 @@ output-words q r =
     (λ _. (omega arith, omega arith, omega arith)) (λ _. (r .first .rdt, r .first .rdl, r .first .rdh))
 
 -- the output of y is the stored frame
-stored-shows : (f : Fifo) (y : Controller) (x : Frame) (n time : ℕ) → InRange y → x .length < 16 → n < 256 → time < 65536
+stored-shows : (f : Fifo) (y : Controller) (x : Frame) (n : FilterNumber) (time : ℕ) → InRange y → x .length < 16 → n .0 < 256 → time < 65536
     → output (fifo f y) ≡ storedFrame x n time → Shows f y x n time
 unfolding storedFrame
 stored-shows f y x n time i l h t e =
-    let w : rdt f y ≡ x .length + n * 256 + time * 65536 = rdt-shown f y ∙ ap (λ (s : StoredFrame). s .rdt) e in
+    let w : rdt f y ≡ x .length + n .0 * 256 + time * 65536 = rdt-shown f y ∙ ap (λ (s : StoredFrame). s .rdt) e in
     let a : rdl f y ≡ bytesKept (dataBytes x) (x .low) = rdl-shown f y ∙ ap (λ (s : StoredFrame). s .rdl) e in
     let b : rdh f y ≡ bytesKept (dataBytes x - 4) (x .high) = rdh-shown f y ∙ ap (λ (s : StoredFrame). s .rdh) e in
     record {
       identifier = ri-shown f y ∙ ap (λ (s : StoredFrame). s .ri) e;
-      code = field 1 16 (rdt f y) (n * 16 + time * 4096) (x .length) 0 (omega arith) (omega arith) l;
-      none = field 16 16 (rdt f y) (n + time * 256) 0 (x .length) (omega arith) l (omega arith);
-      fmi = field 256 256 (rdt f y) time n (x .length) (omega arith) (omega arith) h;
-      timed = field 65536 65536 (rdt f y) 0 time (x .length + n * 256) (omega arith) (omega arith) t;
+      code = field 1 16 (rdt f y) (n .0 * 16 + time * 4096) (x .length) 0 (omega arith) (omega arith) l;
+      none = field 16 16 (rdt f y) (n .0 + time * 256) 0 (x .length) (omega arith) l (omega arith);
+      fmi = field 256 256 (rdt f y) time (n .0) (x .length) (omega arith) (omega arith) h;
+      timed = field 65536 65536 (rdt f y) 0 time (x .length + n .0 * 256) (omega arith) (omega arith) t;
       low = λ j k. let m : j < 8 = omega arith in rw (a, kept-byte (x .low) (dataBytes x) j k, low-byte x j m);
       high = λ j k. let m : 4 + j < 8 = omega arith in rw (b, kept-byte (x .high) (dataBytes x - 4) j k, high-byte (dataBytes x) j, low-byte x (4 + j) m);
       words = words;
@@ -188,7 +189,7 @@ unfolding output
 output-first q h = rw (ne-eqb (q .count) 0 (λ e. omega arith))
 
 -- FIFO f takes the frame, the other stays
-stored : (f : Fifo) (z y : Controller) (x : Frame) (n time : ℕ) (b : Bool) → InRange z → InRange y → x .length < 16 → n < 256 → time < 65536
+stored : (f : Fifo) (z y : Controller) (x : Frame) (n : FilterNumber) (time : ℕ) (b : Bool) → InRange z → InRange y → x .length < 16 → n .0 < 256 → time < 65536
     → fifo f y ≡ pushed (fifo f z) (storedFrame x n time) b → fifo (other f) y ≡ fifo (other f) z → Stored f z y x n time
 stored f z y x n time b i j l h t e o =
     let q : FifoState = fifo f z in
@@ -210,18 +211,18 @@ stored f z y x n time b i j l h t e o =
 done-fifo : (f : Fifo) (z : Controller) (s : steps.Step) → Done z s → fifo f (nextOf z s) ≡ fifoOf f (applied (z .core) (z .banks) s)
 done-fifo f z s h = rw (done-core z s h) (settled-fifo f _)
 
-passed : (a : Acceptance) (z y : Controller) (x : Frame) (time : ℕ) (b : Bool) → InRange z → InRange y → x .length < 16 → fmiOf a < 256 → time < 65536
+passed : (a : Acceptance) (z y : Controller) (x : Frame) (time : ℕ) (b : Bool) → InRange z → InRange y → x .length < 16 → fmiOf a .0 < 256 → time < 65536
     → ((f : Fifo) → fifo f y ≡ received f a (storedFrame x (fmiOf a) time) b (fifo f z)) → Passed a z y x time
 unfolding received
-passed (Into F0 n) z y x time b i j l h t e = stored F0 z y x (n .0) time b i j l h t (e F0) (e F1)
-passed (Into F1 n) z y x time b i j l h t e = stored F1 z y x (n .0) time b i j l h t (e F1) (e F0)
+passed (Into F0 n) z y x time b i j l h t e = stored F0 z y x n time b i j l h t (e F0) (e F1)
+passed (Into F1 n) z y x time b i j l h t e = stored F1 z y x n time b i j l h t (e F1) (e F0)
 passed Rejected z y x time b i j l h t e = λ f. kept f z y (rejected f)
   where
     rejected : (f : Fifo) → fifo f y ≡ fifo f z
     rejected F0 = e F0
     rejected F1 = e F1
 
-fmi-fits : (g : Filters) (v : List ℕ) (w : ℕ) → fmiOf (acceptance bankCount g v w) < 256
+fmi-fits : (g : Filters) (v : List ℕ) (w : ℕ) → fmiOf (acceptance bankCount g v w) .0 < 256
 fmi-fits g v w = omega (arith, fmi-of-range (acceptance bankCount g v w) (fmi-small bankCount g v w))
 
 -- from the bus

@@ -86,7 +86,7 @@ banks-words v (Outcome n) r l = r
 banks-words v (Receive x) r l = r
 banks-words v (ReceiveError e t) r l = r
 
-fmi-range : (g : Filters) (v : List ℕ) (w : ℕ) → fmiOf (acceptance bankCount g v w) < 4 * bankCount
+fmi-range : (g : Filters) (v : List ℕ) (w : ℕ) → fmiOf (acceptance bankCount g v w) .0 < 4 * bankCount
 fmi-range g v w = fmi-of-range (acceptance bankCount g v w) (fmi-small bankCount g v w)
 
 applied-range : (c : Core) (v : List ℕ) (s : Step) → CoreRange c → StepRange s → eqb (refusal c s) 0 ≡ true → CoreRange (applied c v s)

@@ -16,6 +16,7 @@ use Rattle.model.specs.declared.Sender.the-variants.{From}
 use Rattle.model.specs.declared.Fifo.{Fifo}
 use Rattle.model.specs.declared.Fifo.the-variants.{F0, F1}
 use Rattle.model.specs.declared.Frame.{Frame}
+use Rattle.model.specs.declared.FilterNumber.{FilterNumber}
 use Rattle.model.specs.declared.Acceptance.{Acceptance}
 use Rattle.model.specs.declared.Acceptance.the-variants.{Into, Rejected}
 use Rattle.model.specs.declared.Controller.{Controller}
@@ -54,11 +55,11 @@ hasByte x i = not (bit 1 (x .identifier)) && ltb i (x .length)
 
 -- the output shows the frame x that filter n took, with its time: the identifier word, the length code as it came, FMI and TIME,
 -- and the data bytes, 0 where the frame has none
-pub record Shows (f : Fifo) (y : Controller) (x : Frame) (n time : ℕ) : Type 0 where
+pub record Shows (f : Fifo) (y : Controller) (x : Frame) (n : FilterNumber) (time : ℕ) : Type 0 where
   pub identifier : ri f y ≡ x .identifier
   pub code : bits 0 4 (rdt f y) ≡ x .length
   pub none : bits 4 4 (rdt f y) ≡ 0
-  pub fmi : bits 8 8 (rdt f y) ≡ n
+  pub fmi : bits 8 8 (rdt f y) ≡ n .0
   pub timed : bits 16 16 (rdt f y) ≡ time
   pub low : (i : ℕ) → i < 4 → bits (8 * i) 8 (rdl f y) ≡ pick (hasByte x i) (bits (8 * i) 8 (x .low)) 0
   pub high : (i : ℕ) → i < 4 → bits (8 * i) 8 (rdh f y) ≡ pick (hasByte x (4 + i)) (bits (8 * i) 8 (x .high)) 0
@@ -67,7 +68,7 @@ pub record Shows (f : Fifo) (y : Controller) (x : Frame) (n time : ℕ) : Type 0
 -- ---- a frame that passes the filters
 
 -- it goes into FIFO f: a third frame sets FULL, a fourth sets FOVR, and nothing clears either. The output stays that of the oldest frame
-pub record Stored (f : Fifo) (z y : Controller) (x : Frame) (n time : ℕ) : Type 0 where
+pub record Stored (f : Fifo) (z y : Controller) (x : Frame) (n : FilterNumber) (time : ℕ) : Type 0 where
   pub counted : fmp f y ≡ min (fmp f z + 1) 3
   pub third : full f y ≡ full f z || eqb (fmp f z) 2
   pub fourth : fovr f y ≡ fovr f z || eqb (fmp f z) 3
@@ -77,7 +78,7 @@ pub record Stored (f : Fifo) (z y : Controller) (x : Frame) (n time : ℕ) : Typ
   pub alone : Kept (other f) z y
 
 abbrev pub Passed : Acceptance → Controller → Controller → Frame → ℕ → Type 0
-Passed (Into f n) z y x time = Stored f z y x (n .0) time
+Passed (Into f n) z y x time = Stored f z y x n time
 Passed Rejected z y x time = (f : Fifo) → Kept f z y
 
 -- ---- loopback

@@ -96,7 +96,7 @@ sameFifo f g = eqb (fifoNumber f) (fifoNumber g)
 
 -- a frame arrives where the filters send it, and nowhere else
 abbrev pub arrival : Fifo → Acceptance → Frame → ℕ → Bool → Traffic
-arrival f (Into g n) x time locked = pick (sameFifo f g) (arrives (storedFrame x (n .0) time) locked) none
+arrival f (Into g n) x time locked = pick (sameFifo f g) (arrives (storedFrame x n time) locked) none
 arrival f Rejected x time locked = none
 
 -- MCR with bit 15 set; RFxR with RFOM

@@ -10,6 +10,7 @@ use Rattle.model.specs.declared.Fifo.the-variants.{F0, F1}
 use Rattle.model.specs.declared.StoredFrame.{StoredFrame}
 use Rattle.model.specs.declared.FifoState.{FifoState}
 use Rattle.model.specs.declared.Frame.{Frame}
+use Rattle.model.specs.declared.FilterNumber.{FilterNumber}
 use Rattle.model.specs.declared.MailboxState.{MailboxState}
 use Rattle.model.specs.declared.Acceptance.{Acceptance}
 use Rattle.model.specs.declared.Acceptance.the-variants.{Into, Rejected}
@@ -29,10 +30,10 @@ unfoldable pub bytesKept : ℕ → ℕ → ℕ
 bytesKept n w = pick (leb 4 n) w (w % 2 ^ (8 * n))
 
 -- a frame as it is stored: bytes past the length as 0, its filter number as FMI, the time as TIME
-unfoldable pub storedFrame : Frame → ℕ → ℕ → StoredFrame
-storedFrame x fmi time = record {
+unfoldable pub storedFrame : Frame → FilterNumber → ℕ → StoredFrame
+storedFrame x n time = record {
   ri = x .identifier;
-  rdt = x .length + fmi * 256 + time * 65536;
+  rdt = x .length + n .0 * 256 + time * 65536;
   rdl = bytesKept (dataBytes x) (x .low);
   rdh = bytesKept (dataBytes x - 4) (x .high);
 }
@@ -67,9 +68,9 @@ goesInto F1 (Into F1 x) = true
 goesInto F1 Rejected = false
 
 -- its filter number; 0 where there is none
-abbrev pub fmiOf : Acceptance → ℕ
-fmiOf (Into f x) = x .0
-fmiOf Rejected = 0
+abbrev pub fmiOf : Acceptance → FilterNumber
+fmiOf (Into f x) = x
+fmiOf Rejected = record { 0 = 0 }
 
 unfoldable pub received : Fifo → Acceptance → StoredFrame → Bool → FifoState → FifoState
 received f a x rflm q = pick (goesInto f a) (pushed q x rflm) q

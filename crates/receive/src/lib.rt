@@ -9,6 +9,7 @@ use bits::one;
 use model::Acceptance;
 use model::Fifo;
 use model::FifoState;
+use model::FilterNumber;
 use model::Frame;
 use model::MailboxState;
 use model::StoredFrame;
@@ -53,14 +54,13 @@ fn past_four(n: u8) -> u8
     n - 4
 }
 
-// FMI is a byte here, so that RDT fits a word whatever the arguments.
-pub fn stored_frame(x: Frame, fmi: u8, time: u16) -> StoredFrame
+pub fn stored_frame(x: Frame, fmi: FilterNumber, time: u16) -> StoredFrame
     ensures { λ r. ⌜ r ≡ reception.storedFrame x fmi time ⌝ }
 {
     let n = data_bytes(x);
     StoredFrame {
         ri: x.identifier,
-        rdt: (x.length as u32) + (fmi as u32) * 256 + (time as u32) * 65536,
+        rdt: (x.length as u32) + (fmi.0 as u32) * 256 + (time as u32) * 65536,
         rdl: bytes_kept(n, x.low),
         rdh: bytes_kept(past_four(n), x.high),
     }
@@ -175,12 +175,12 @@ pub fn goes_into(f: Fifo, a: Acceptance) -> bool
     }
 }
 
-pub fn fmi_of(a: Acceptance) -> u8
+pub fn fmi_of(a: Acceptance) -> FilterNumber
     ensures { λ r. ⌜ r ≡ reception.fmiOf a ⌝ }
 {
     match a {
-        Acceptance::Into(_, x) => x.0,
-        Acceptance::Rejected => 0,
+        Acceptance::Into(_, x) => x,
+        Acceptance::Rejected => FilterNumber(0),
     }
 }
 

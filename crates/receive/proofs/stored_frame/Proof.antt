@@ -9,6 +9,9 @@ data-bytes-requires c κs = search needs
 cast-t5 : tie.Need-cast-t5
 cast-t5 c = search needs
 
+cast-t6 : tie.Need-cast-t6
+cast-t6 c = search needs
+
 mul-t7 : tie.Need-mul-t7
 mul-t7 c = search needs
 
@@ -32,7 +35,7 @@ bytes-kept-requires-2 c κs = search needs
 
 returns : tie.Need-returns
 unfolding storedFrame
-returns c = simp (c .bytes-kept2 .ensures, c .before .past-four .ensures, c .before .before .bytes-kept .ensures, c .before .before .before .before .data-bytes .ensures)
+returns c = simp (c .bytes-kept2 .ensures, c .before .past-four .ensures, c .before .before .bytes-kept .ensures, c .before .before .before .before .before .data-bytes .ensures)
 
 pub stored-frame-spec : {M : Type 1} → statement M
 stored-frame-spec =
@@ -40,6 +43,7 @@ stored-frame-spec =
     (tie.spec
     data-bytes-requires
     cast-t5
+    cast-t6
     mul-t7
     add-t8
     mul-t10

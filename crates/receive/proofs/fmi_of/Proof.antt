@@ -1,0 +1,18 @@
+use borrow.Author.Needs.{needs}
+use Rattle.receive.proofs.fmi_of.Statement.{statement}
+use Rattle.receive.proofs.fmi_of.Tie as tie
+
+enum-known-a : tie.Need-enum-known-a
+enum-known-a c = search needs
+
+enum-told : tie.Need-enum-told
+enum-told c = search needs
+
+returns : tie.Need-returns
+returns c = search needs
+
+returns-2 : tie.Need-returns-2
+returns-2 c = simp (c .enum-told .given .1)
+
+pub fmi-of-spec : {M : Type 1} → statement M
+fmi-of-spec = tie.close (tie.spec enum-known-a enum-told returns returns-2)
