@@ -2,7 +2,7 @@
 -- offsets that no register has 18.
 use Prim.Native.Nat.{ℕ}
 use Rattle.model.specs.Queue.{number}
-use Rattle.model.specs.Codes.{fifoNumber}
+use Rattle.model.specs.Shown.{fifoNumber}
 use Rattle.model.specs.declared.Register.{Register}
 use Rattle.model.specs.declared.Register.the-variants.{Mcr, Msr, Tsr, Rfr, Ier, Esr, Btr, Ti, Tdt, Tdl, Tdh, Ri, Rdt, Rdl, Rdh, Fmr, Fm1r, Fs1r, Ffa1r, Fa1r, R1, R2, Absent}
 use Rattle.account.specs.declared.places.Place.{Place}

@@ -9,7 +9,7 @@ use Rattle.model.specs.Base.{pick, one}
 use Rattle.model.specs.Queue.{holds, isFrom}
 use Rattle.model.specs.Registers.{readWord, bankCount}
 use Rattle.model.specs.Search.{acceptance}
-use Rattle.model.specs.Codes.{fifoNumber}
+use Rattle.model.specs.Shown.{fifoNumber}
 use Rattle.model.specs.declared.Mailbox.{Mailbox}
 use Rattle.model.specs.declared.Mailbox.the-variants.{M0, M1, M2}
 use Rattle.model.specs.declared.Fifo.the-variants.{F0, F1}

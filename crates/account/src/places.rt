@@ -1,6 +1,6 @@
 // The register of an access, by its number in the table of names.
 ghost use mathlib.Core.Path.{_≡_};
-ghost use Rattle.model.specs.Codes as codes;
+ghost use Rattle.model.specs.Shown as shown;
 ghost use Rattle.model.specs.Registers as registers;
 ghost use Rattle.registers.specs.Accesses as accesses;
 ghost use Rattle.account.specs.Places as places;
@@ -15,7 +15,7 @@ pub struct Place {
 }
 
 fn fifo_number(f: Fifo) -> u32
-    ensures { λ r. ⌜ r ≡ codes.fifoNumber f ⌝ }
+    ensures { λ r. ⌜ r ≡ shown.fifoNumber f ⌝ }
 {
     match f {
         Fifo::F0 => 0,
