@@ -32,7 +32,7 @@ use Rattle.model.proofs.Choices.{Is, Not, and-l, and-r, Is-not, pick-ca
 use Rattle.model.proofs.Follows.{end-accepted, may-end}
 use Rattle.model.proofs.Mapped.{map}
 use Rattle.model.proofs.RegisterAccess.{elsewhere}
-use Rattle.model.proofs.EventRanges.{receive-error-step}
+use Rattle.model.proofs.ReceiveErrors.{receive-error-step}
 
 -- the counts as the controller stores them
 abbrev pub countsOf : Core → ErrorCounts

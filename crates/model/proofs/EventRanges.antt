@@ -4,8 +4,8 @@ use mathlib.Core.List.{List}
 use mathlib.Core.Path.{_≡_, refl}
 use Prim.Native.Nat.{ℕ, _*_, _/_, _^_, _<_, _≤_}
 use native.Mathlib.Omega.{arith}
-use lib.Dec.{eqb, ltb, leb}
-use borrow.Author.Tests.{eqb-true, ltb-false, leb-true, not-true}
+use lib.Dec.{eqb, ltb}
+use borrow.Author.Tests.{ltb-false, not-true}
 use Rattle.model.specs.Queue.{isEmpty, isNobody, offWire}
 use Rattle.model.specs.Mailboxes.{at, tdtMasked, identifiers, firstOf, started, ended, over}
 use Rattle.model.specs.Search.{acceptance}
@@ -31,6 +31,7 @@ use Rattle.model.specs.declared.Acceptance.{Acceptance}
 use Rattle.model.specs.declared.Core.{Core}
 use Rattle.model.proofs.Choices.{pick-cases, and-l, and-r}
 use Rattle.model.proofs.Follows.{first-carried}
+use Rattle.model.proofs.ReceiveErrors.{receive-error-code, receive-error-step}
 use Rattle.model.proofs.ControlRanges.{settled-range, settled-recovery-range, idled-range, idled-recovery-range, idle-errors-range, ticked-range, woken-range, errors-changed-range, errors-changed-recovery-range, outcome-errors-range, received-errors-range, receive-error-counters-range}
 use Rattle.model.proofs.MailboxRanges.{started-range, ended-range}
 use Rattle.model.proofs.FifoRanges.{well-formed-range, well-formed-length, sent-range, stored-range, received-range}
@@ -109,19 +110,6 @@ receive-ready c may = ready c (not (lbkm (c .control))) (not (c .filters .finit)
 ended-free : (t : Transmit) (m : Mailbox) (n : ℕ) (nart : Bool) → isNobody (ended t m n nart .queue .transmitting) ≡ true
 unfolding ended offWire
 ended-free t m n nart = pick-cases (λ (q : Queue). isNobody (q .transmitting) ≡ true) (over (t .queue) m n nart) _ _ (λ _. refl) (λ _. refl)
-
--- a receive error's code and step
-receive-error-code : (k n : ℕ) → receiveErrorInRange k n ≡ true → k ≤ 7
-unfolding receiveErrorInRange
-receive-error-code k n ok = let l : k ≤ 6 = leb-true _ _ (and-r (leb 1 k) (leb k 6) (and-l (leb 1 k && leb k 6) (eqb n 1 || eqb n 8) ok)) in omega arith
-
-step-one-or-eight : (n : ℕ) (b : Bool) → eqb n 1 ≡ b → (b || eqb n 8) ≡ true → n ≤ 8
-step-one-or-eight n true e h = let l : n ≡ 1 = eqb-true _ _ e in omega arith
-step-one-or-eight n false e h = let l : n ≡ 8 = eqb-true _ _ h in omega arith
-
-pub receive-error-step : (k n : ℕ) → receiveErrorInRange k n ≡ true → n ≤ 8
-unfolding receiveErrorInRange
-receive-error-step k n ok = step-one-or-eight n (eqb n 1) refl (and-r (leb 1 k && leb k 6) (eqb n 1 || eqb n 8) ok)
 
 module _ (c : Core) (r : CoreRange c) where
   -- ---- idle, bit times, activity

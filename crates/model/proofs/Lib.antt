@@ -31,6 +31,7 @@ pub mod ControlRanges
 pub mod CoreRanges
 pub mod ErrorCounting
 pub mod EventRanges
+pub mod ReceiveErrors
 pub mod Exampled
 pub mod FifoRanges
 pub mod MailboxRanges
