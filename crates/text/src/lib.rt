@@ -1,6 +1,9 @@
 // A line of text, by value. Each function adds to the line; a byte for which there is no room is left out, and the
 // longest line leaves room.
+ghost use mathlib.Core.Path.{_≡_};
 ghost use Prim.Native.Nat.{_≤_};
+ghost use lib.ListN.{replicate};
+ghost use Rattle.text.specs.Lines as lines;
 
 const ROOM: usize = 512;
 
@@ -9,14 +12,19 @@ pub struct Line {
     pub at: usize,
 }
 
-pub fn empty() -> Line {
+pub fn empty() -> Line
+    ensures { λ r. ⌜ r ≡ record { bytes = replicate 512 0; at = 0 } ⌝ }
+{
     Line {
         bytes: [0; ROOM],
         at: 0,
     }
 }
 
-pub fn byte(l: Line, b: u8) -> Line {
+pub fn byte(l: Line, b: u8) -> Line
+    ensures { λ r. ⌜ lines.Extends l r ⌝ }
+    ensures { λ r. ⌜ r ≡ lines.added l b ⌝ }
+{
     let mut m = l;
     let at = l.at;
     if at < ROOM {
@@ -28,7 +36,9 @@ pub fn byte(l: Line, b: u8) -> Line {
     }
 }
 
-pub fn put(l: Line, text: &[u8]) -> Line {
+pub fn put(l: Line, text: &[u8]) -> Line
+    ensures { λ r. ⌜ lines.Extends l r ⌝ }
+{
     let mut m = l;
     for i in 0..text.len() {
         m = byte(m, text[i]);
@@ -37,7 +47,9 @@ pub fn put(l: Line, text: &[u8]) -> Line {
 }
 
 // n spaces.
-fn spaces(l: Line, n: usize) -> Line {
+fn spaces(l: Line, n: usize) -> Line
+    ensures { λ r. ⌜ lines.Extends l r ⌝ }
+{
     let mut m = l;
     for i in 0..n {
         m = byte(m, b' ');
@@ -53,14 +65,16 @@ fn less(a: usize, b: usize) -> usize {
 }
 
 // On to a column, by two spaces at least.
-pub fn column(l: Line, to: usize) -> Line {
+pub fn column(l: Line, to: usize) -> Line
+    ensures { λ r. ⌜ lines.Extends l r ⌝ }
+{
     let m = spaces(l, 2);
     spaces(m, less(to, m.at))
 }
 
 // How many bytes of a text of this length a row of n bytes takes.
 fn fitting(length: usize, n: usize) -> usize
-    ensures { λ r. ⌜ (r ≤ 512) × (r ≤ n) ⌝ }
+    ensures { λ r. ⌜ (r ≡ lines.fitting length n) × (r ≤ 512) × (r ≤ n) ⌝ }
 {
     if n < length {
         if n < ROOM {
@@ -75,7 +89,9 @@ fn fitting(length: usize, n: usize) -> usize
 }
 
 // Copies the text to the start of a row and says how long it is.
-pub fn copied(l: Line, row: &mut [u8]) -> usize {
+pub fn copied(l: Line, row: &mut [u8]) -> usize
+    ensures { λ r. ⌜ lines.Copied l (now (row .entry)) r (now (row .exit)) ⌝ }
+{
     let bytes = l.bytes;
     let n = fitting(l.at, row.len());
     for i in 0..n {
@@ -86,14 +102,18 @@ pub fn copied(l: Line, row: &mut [u8]) -> usize {
 
 // ---- numbers
 
-pub fn decimal(l: Line, n: u64) -> Line {
+pub fn decimal(l: Line, n: u64) -> Line
+    ensures { λ r. ⌜ lines.Extends l r ⌝ }
+{
     let mut digits = [0u8; 20];
     let k = io::decimal(n, &mut digits);
     put(l, &digits[..k])
 }
 
 // At the right of a width.
-pub fn right(l: Line, n: u64, width: usize) -> Line {
+pub fn right(l: Line, n: u64, width: usize) -> Line
+    ensures { λ r. ⌜ lines.Extends l r ⌝ }
+{
     let mut digits = [0u8; 20];
     let k = io::decimal(n, &mut digits);
     let m = spaces(l, less(width, k));
@@ -118,7 +138,9 @@ fn digit_at(w: u32, j: u32) -> u8 {
 }
 
 // The lowest k digits of a word.
-pub fn hex(l: Line, w: u32, k: u32) -> Line {
+pub fn hex(l: Line, w: u32, k: u32) -> Line
+    ensures { λ r. ⌜ lines.Extends l r ⌝ }
+{
     let mut m = put(l, b"0x");
     for i in 0..k {
         let j = k - 1 - i;
@@ -128,14 +150,18 @@ pub fn hex(l: Line, w: u32, k: u32) -> Line {
 }
 
 // A byte as two digits with a space in front.
-fn pair(l: Line, w: u32) -> Line {
+fn pair(l: Line, w: u32) -> Line
+    ensures { λ r. ⌜ lines.Extends l r ⌝ }
+{
     let a = byte(l, b' ');
     let b = byte(a, digit_at(w, 1));
     byte(b, digit_at(w, 0))
 }
 
 // The lowest n bytes of a word, the lowest first.
-pub fn bytes(l: Line, w: u32, n: u32) -> Line {
+pub fn bytes(l: Line, w: u32, n: u32) -> Line
+    ensures { λ r. ⌜ lines.Extends l r ⌝ }
+{
     let mut m = l;
     let mut rest = w;
     for i in 0..n {
@@ -154,7 +180,9 @@ fn next_part(part: u32, b: u8) -> u32 {
     part
 }
 
-fn said_byte(l: Line, here: bool, b: u8, n: u64) -> Line {
+fn said_byte(l: Line, here: bool, b: u8, n: u64) -> Line
+    ensures { λ r. ⌜ lines.Extends l r ⌝ }
+{
     if !here | (b == b'|') {
         return l;
     }
@@ -165,7 +193,9 @@ fn said_byte(l: Line, here: bool, b: u8, n: u64) -> Line {
 }
 
 // Part `which` of a table, with the number in place of each percent sign.
-pub fn said(l: Line, table: &[u8], which: u32, n: u64) -> Line {
+pub fn said(l: Line, table: &[u8], which: u32, n: u64) -> Line
+    ensures { λ r. ⌜ lines.Extends l r ⌝ }
+{
     let mut m = l;
     let mut part: u32 = 0;
     for i in 0..table.len() {
@@ -202,7 +232,9 @@ fn is_end(b: u8) -> bool {
 }
 
 // A byte of the name of a field that is set, with a space in front of the first.
-fn letter(l: Line, named: bool, b: u8, j: u32) -> Line {
+fn letter(l: Line, named: bool, b: u8, j: u32) -> Line
+    ensures { λ r. ⌜ lines.Extends l r ⌝ }
+{
     if b == b'%' {
         return decimal(l, j as u64);
     }
@@ -213,7 +245,9 @@ fn letter(l: Line, named: bool, b: u8, j: u32) -> Line {
 }
 
 // The number of a field of several bits.
-fn number(l: Line, size: u32, n: u32) -> Line {
+fn number(l: Line, size: u32, n: u32) -> Line
+    ensures { λ r. ⌜ lines.Extends l r ⌝ }
+{
     if size <= 2 {
         return l;
     }
@@ -221,7 +255,9 @@ fn number(l: Line, size: u32, n: u32) -> Line {
 }
 
 // What a byte of the table puts on the line, where its part is the one that is told.
-fn drawn(l: Line, here: bool, f: Field, b: u8, j: u32) -> Line {
+fn drawn(l: Line, here: bool, f: Field, b: u8, j: u32) -> Line
+    ensures { λ r. ⌜ lines.Extends l r ⌝ }
+{
     let n = value(f);
     if !here | (n == 0) {
         return l;
@@ -278,7 +314,9 @@ fn passed(f: Field) -> Field {
 // The fields of a word that are not 0, each with a space in front: a flag by its name, a longer field by name and
 // number. Part `which` of the table has a word for each field from bit 0 up, with a dot for each bit after its first;
 // a dash is no field, a slash skips a byte, a caret goes back to bit 0, a percent sign stands for j.
-pub fn fields(l: Line, table: &[u8], which: u32, w: u32, j: u32) -> Line {
+pub fn fields(l: Line, table: &[u8], which: u32, w: u32, j: u32) -> Line
+    ensures { λ r. ⌜ lines.Extends l r ⌝ }
+{
     let mut m = l;
     let mut f = Field {
         rest: w,

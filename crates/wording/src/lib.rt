@@ -1,4 +1,5 @@
 // The lines of a trace: a step, its answer, the interrupt lines that are up and what it changed, in words.
+ghost use Rattle.text.specs.Lines as lines;
 use account::Account;
 use account::faults::Fault;
 use account::places::Place;
@@ -19,11 +20,15 @@ const ANSWER_COLUMN: usize = 61;
 
 const LINES_COLUMN: usize = 103;
 
-pub fn head() -> Line {
-    put(
+// The heads of the columns, and the state before the first record.
+pub fn head() -> Line
+    ensures { λ r. ⌜ lines.EndsLine r ⌝ }
+{
+    let a = put(
         text::empty(),
-        b" record  step                                                answer                                    lines               changed\n      0  power on                                            -                                         -                   mode Sleep, error active, mailboxes and FIFOs empty\n",
-    )
+        b" record  step                                                answer                                    lines               changed\n      0  power on                                            -                                         -                   mode Sleep, error active, mailboxes and FIFOs empty",
+    );
+    byte(a, b'\n')
 }
 
 // ---- the answer
@@ -71,7 +76,10 @@ fn answered(l: Line, e: Step, a: Account) -> Line {
 
 // ---- lines
 
-pub fn line(n: u64, e: Step, a: Account) -> Line {
+// A step with its number.
+pub fn line(n: u64, e: Step, a: Account) -> Line
+    ensures { λ r. ⌜ lines.EndsLine r ⌝ }
+{
     let g = a.place;
     let b = put(text::right(text::empty(), n, NUMBER_WIDTH), b"  ");
     let c = column(steps::told(b, e, g), ANSWER_COLUMN);
@@ -94,7 +102,9 @@ fn fault(l: Line, f: Fault) -> Line {
 }
 
 // A record that can't be read, at a byte of the script, with the interrupt lines that are up.
-pub fn unread_line(n: u64, place: u64, f: Fault, up: u8) -> Line {
+pub fn unread_line(n: u64, place: u64, f: Fault, up: u8) -> Line
+    ensures { λ r. ⌜ lines.EndsLine r ⌝ }
+{
     let a = text::right(text::empty(), n, NUMBER_WIDTH);
     let b = said(a, b"  can't be read, at byte %", 0, place);
     let c = fault(column(b, ANSWER_COLUMN), f);
@@ -102,14 +112,19 @@ pub fn unread_line(n: u64, place: u64, f: Fault, up: u8) -> Line {
 }
 
 // The same for standard error.
-pub fn complaint(n: u64, place: u64, f: Fault) -> Line {
+pub fn complaint(n: u64, place: u64, f: Fault) -> Line
+    ensures { λ r. ⌜ lines.EndsLine r ⌝ }
+{
     let a = said(text::empty(), b"trace: record %", 0, n);
     let b = said(a, b" at byte %: ", 0, place);
     byte(fault(b, f), b'\n')
 }
 
 // The last line: why and where the trace stopped, how many records there were and how many of them were refused.
-pub fn last(l: Line, why: u32, place: u64, records: u64, refused: u64) -> Line {
+pub fn last(l: Line, why: u32, place: u64, records: u64, refused: u64) -> Line
+    ensures { λ r. ⌜ lines.EndsLine r ⌝ }
+    ensures { λ r. ⌜ lines.Extends l r ⌝ }
+{
     let a = said(
         l,
         b"stopped at byte %: |end of the script at byte %: |standard input can't be read on, stopped at byte %: ",
@@ -117,5 +132,5 @@ pub fn last(l: Line, why: u32, place: u64, records: u64, refused: u64) -> Line {
         place,
     );
     let b = said(a, b"% records, ", 0, records);
-    said(b, b"% refused\n", 0, refused)
+    byte(said(b, b"% refused", 0, refused), b'\n')
 }

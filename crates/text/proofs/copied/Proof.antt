@@ -1,12 +1,12 @@
-use mathlib.Core.Path.{_≡_}
-use lib.ListN.{length}
+use native.Mathlib.Omega.{arith}
+use Rattle.text.proofs.Copying.{Begun, one-more, all-copied}
 use Prim.Native.Nat.{_-_}
 use borrow.Author.Needs.{needs}
 use Rattle.text.proofs.copied.Statement.{statement}
 use Rattle.text.proofs.copied.Tie as tie
 
 abbrev Inv-loop : tie.InvT-loop
-Inv-loop row₀ bytes n i₀ row i = length row ≡ length row₀
+Inv-loop row₀ bytes n i₀ row i = Begun bytes row₀ n row i
 
 abbrev μ-loop : tie.MeasureT-loop
 μ-loop row₀ bytes n i₀ row i = n - i
@@ -30,13 +30,19 @@ loop-less : tie.Need-loop-less Inv-loop μ-loop
 loop-less c = search needs
 
 loop-again : tie.Need-loop-again Inv-loop μ-loop
-loop-again c = search needs
+loop-again c =
+    let l = c .before .loop in
+    let a = c .before .before .before .before .before .args in
+    one-more (a .l .bytes) (a .row .now) (c .before .before .fitting .result) (l .row) (l .i) (omega (arith, c .loop-test .taken)) (omega (arith, c .before .before .fitting .ensures .2)) (l .inv)
 
 same-length : tie.Need-same-length Inv-loop μ-loop
 same-length c = search needs
 
 returns : tie.Need-returns Inv-loop μ-loop
-returns c = search needs
+returns c =
+    let l = c .before .loop in
+    let a = c .before .before .before .before .before .args in
+    all-copied (a .l) (a .row .now) (c .before .before .fitting .result) (l .row) (l .i) (c .before .before .fitting .ensures .0) (omega (arith, c .loop-test .left)) (l .inv)
 
 pub copied-spec : {M : Type 1} → statement M
 copied-spec =

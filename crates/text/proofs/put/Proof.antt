@@ -1,16 +1,17 @@
+use Rattle.text.specs.Lines.{Extends, extends-refl, extends-trans}
 use Prim.Native.Nat.{_-_}
 use borrow.Author.Needs.{needs}
 use Rattle.text.proofs.put.Statement.{statement}
 use Rattle.text.proofs.put.Tie as tie
 
 abbrev Inv-loop : tie.InvT-loop
-Inv-loop text m₀ i₀ i-end m i = Unit {0}
+Inv-loop text m₀ i₀ i-end m i = Extends m₀ m
 
 abbrev μ-loop : tie.MeasureT-loop
 μ-loop text m₀ i₀ i-end m i = i-end - i
 
 loop-holds : tie.Need-loop-holds Inv-loop μ-loop
-loop-holds c = search needs
+loop-holds c = search (needs, extends-refl)
 
 shared-slice-read-byte : tie.Need-shared-slice-read-byte Inv-loop μ-loop
 shared-slice-read-byte c = search needs
@@ -25,10 +26,10 @@ loop-less : tie.Need-loop-less Inv-loop μ-loop
 loop-less c = search needs
 
 loop-again : tie.Need-loop-again Inv-loop μ-loop
-loop-again c = search needs
+loop-again c = search (needs, extends-trans)
 
 returns : tie.Need-returns Inv-loop μ-loop
-returns c = search needs
+returns c = search (needs, extends-trans)
 
 pub put-spec : {M : Type 1} → statement M
 put-spec =
