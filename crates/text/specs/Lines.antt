@@ -1,11 +1,11 @@
 -- What holds of a line to which more is added. Document 01 leaves the words of a trace free.
-use mathlib.Core.Bool.{Bool, true, false}
 use mathlib.Core.Path.{_≡_, refl, _∙_}
 use mathlib.Core.List.{List}
 use Prim.Native.Nat.{ℕ, _+_, _≤_, _<_, min}
 use native.Mathlib.Omega.{arith}
 use lib.Dec.{ltb}
 use lib.ListN.{length, getD, set, take, drop}
+use Rattle.model.specs.Base.{pick}
 use Rattle.text.specs.declared.Line.{Line}
 
 -- the text of l stands at the start of r: no byte of it is changed, and r is as long or longer
@@ -18,10 +18,6 @@ extends-refl l = record { kept = λ i h. refl; longer = omega arith }
 
 pub extends-trans : (l m r : Line) → Extends l m → Extends m r → Extends l r
 extends-trans l m r a b = record { kept = λ i h. b .kept i (omega (arith, a .longer)) ∙ a .kept i h; longer = omega (arith, a .longer, b .longer) }
-
-abbrev pick : {A : Type 0} → Bool → A → A → A
-pick true a b = a
-pick false a b = b
 
 -- a byte more, if there is room
 abbrev pub added : Line → ℕ → Line

@@ -1,9 +1,9 @@
 // A line of text, by value. Each function adds to the line; a byte for which there is no room is left out, and the
 // longest line leaves room.
 ghost use mathlib.Core.Path.{_≡_};
-ghost use Prim.Native.Nat.{_≤_};
 ghost use lib.ListN.{replicate};
 ghost use Rattle.text.specs.Lines as lines;
+use bits::least;
 
 const ROOM: usize = 512;
 
@@ -72,28 +72,12 @@ pub fn column(l: Line, to: usize) -> Line
     spaces(m, less(to, m.at))
 }
 
-// How many bytes of a text of this length a row of n bytes takes.
-fn fitting(length: usize, n: usize) -> usize
-    ensures { λ r. ⌜ (r ≡ lines.fitting length n) × (r ≤ 512) × (r ≤ n) ⌝ }
-{
-    if n < length {
-        if n < ROOM {
-            return n;
-        }
-        return ROOM;
-    }
-    if length < ROOM {
-        return length;
-    }
-    ROOM
-}
-
 // Copies the text to the start of a row and says how long it is.
 pub fn copied(l: Line, row: &mut [u8]) -> usize
     ensures { λ r. ⌜ lines.Copied l (now (row .entry)) r (now (row .exit)) ⌝ }
 {
     let bytes = l.bytes;
-    let n = fitting(l.at, row.len());
+    let n = least(least(l.at, ROOM), row.len());
     for i in 0..n {
         row[i] = bytes[i];
     }
