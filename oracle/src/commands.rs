@@ -87,64 +87,59 @@ fn standard_input() -> Result<Vec<u8>, String> {
     Ok(bytes)
 }
 
-/// Standard output in pieces, past the line buffer of `io::stdout`. A reader
-/// that goes away early is no error.
-struct Replies {
-    bytes: Vec<u8>,
-    out: File,
-}
+/// Standard output, past the line buffer of `io::stdout`. A reader that goes
+/// away early is no error.
+struct Output(File);
 
-impl Replies {
-    fn new() -> Result<Replies, String> {
+impl Output {
+    fn new() -> Result<Output, String> {
         let out = io::stdout().as_fd().try_clone_to_owned().map_err(|error| error.to_string())?;
-        Ok(Replies { bytes: Vec::with_capacity(PIECE + REPLY_LENGTH), out: File::from(out) })
+        Ok(Output(File::from(out)))
     }
 
-    #[inline]
-    fn push(&mut self, reply: &[u8]) {
-        self.bytes.extend_from_slice(reply);
-        if self.bytes.len() >= PIECE {
-            self.flush();
-        }
-    }
-
-    fn flush(&mut self) {
-        if self.out.write_all(&self.bytes).is_err() {
+    fn write(&mut self, bytes: &[u8]) {
+        if self.0.write_all(bytes).is_err() {
             std::process::exit(0);
         }
-        self.bytes.clear();
     }
 }
 
 /// Replays standard input a piece at a time.
 fn replay() -> Status {
     let mut input = io::stdin().lock();
-    let mut replies = Replies::new()?;
+    let mut output = Output::new()?;
     let mut controller = Controller::at_reset();
-    let mut reply = [0; REPLY_LENGTH];
     let mut space = vec![0; PIECE];
-    let (mut record, mut bytes, mut held) = (0u64, 0, 0);
+    let mut replies = vec![0; PIECE];
+    let (mut record, mut bytes, mut held, mut filled) = (0u64, 0, 0, 0);
     loop {
         let got = input.read(&mut space[held..]).map_err(|error| error.to_string())?;
         let script = &space[..held + got];
         let mut place = 0;
         loop {
-            let progress = script::step(&mut controller, script, place, &mut reply);
-            // The rest of a record that is cut short may come with the next piece.
-            if progress.at_end || (progress.answer.code == CODE_SHORT && got > 0) {
+            let progress = script::step(&mut controller, script, place, &mut replies[filled..]);
+            if progress.at_end {
                 break;
             }
-            replies.push(&reply);
             if progress.answer.code >= CODE_SHORT {
-                replies.flush();
+                // The rest of a record that is cut short may come with the next piece.
+                if progress.answer.code == CODE_SHORT && got > 0 {
+                    break;
+                }
+                output.write(&replies[..filled + REPLY_LENGTH]);
                 say_unreadable(&script[place..], record, bytes + place);
                 return Ok(UNREADABLE_RECORD);
+            }
+            filled += REPLY_LENGTH;
+            if replies.len() - filled < REPLY_LENGTH {
+                output.write(&replies[..filled]);
+                filled = 0;
             }
             record += 1;
             place = progress.place;
         }
         if got == 0 {
-            replies.flush();
+            output.write(&replies[..filled]);
             return Ok(READ_TO_THE_END);
         }
         held = script.len() - place;
@@ -163,7 +158,8 @@ fn say_unreadable(rest: &[u8], record: u64, byte: usize) {
 
 fn check() -> Status {
     let script = standard_input()?;
-    let mut replies = Replies::new()?;
+    let mut output = Output::new()?;
+    let mut replies = Vec::new();
     let mut controller = Controller::at_reset();
     let mut requests = Requests::default();
     let mut reply = [0; REPLY_LENGTH];
@@ -173,8 +169,8 @@ fn check() -> Status {
         if progress.at_end {
             break READ_TO_THE_END;
         }
-        replies.push(&reply);
-        if progress.answer.code >= 6 {
+        replies.extend_from_slice(&reply);
+        if progress.answer.code >= CODE_SHORT {
             say_unreadable(&script[place..], record, place);
             break UNREADABLE_RECORD;
         }
@@ -190,7 +186,7 @@ fn check() -> Status {
         record += 1;
         place = progress.place;
     };
-    replies.flush();
+    output.write(&replies);
     eprintln!("{record} records, {} requests accepted, {} ended", requests.accepted, requests.ended);
     Ok(status)
 }
@@ -202,15 +198,13 @@ fn tsr_of(controller: &Controller) -> u32 {
 
 fn write_generated(seed: &str, records: &str, kind: &str) -> Status {
     let kind = kind_named(kind)?;
-    let mut replies = Replies::new()?;
-    replies.push(&generate(number(seed)?, number(records)?, kind));
-    replies.flush();
+    Output::new()?.write(&generate(number(seed)?, number(records)?, kind));
     Ok(0)
 }
 
 fn print_words() -> Status {
     let script = standard_input()?;
-    let mut out = Replies::new()?;
+    let mut lines = Vec::new();
     let mut place = 0;
     while place < script.len() {
         let line = match decode(&script[place..]) {
@@ -224,10 +218,10 @@ fn print_words() -> Status {
                 format!("# {}", unreadable.in_words())
             }
         };
-        out.push(line.as_bytes());
-        out.push(b"\n");
+        lines.extend_from_slice(line.as_bytes());
+        lines.push(b'\n');
     }
-    out.flush();
+    Output::new()?.write(&lines);
     Ok(0)
 }
 
