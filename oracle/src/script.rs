@@ -67,6 +67,7 @@ pub struct Progress {
 
 /// Does the record at `place` of the script and writes its reply to the
 /// start of `reply`. An empty rest is the end: no reply, nothing changed.
+#[inline(always)]
 pub fn step(controller: &mut Controller, script: &[u8], place: usize, reply: &mut [u8]) -> Progress {
     let unchanged = |controller: &Controller, code: u8| Answer { code, lines: controller.lines(), word: 0 };
     if place >= script.len() {
@@ -91,57 +92,68 @@ fn write_reply(reply: &mut [u8], answer: Answer) {
     reply.copy_from_slice(&[REPLY_TAG, 6, 0, answer.code, lines, w0, w1, w2, w3]);
 }
 
-/// The body length that belongs to a tag.
-pub fn body_length(tag: u8) -> Option<usize> {
-    Some(match tag {
-        0x01 | 0x04 | 0x06 | 0x07 => 0,
-        0x02 | 0x05 | 0x0A => 2,
-        0x03 => 6,
-        0x08 => 1,
-        0x09 => 13,
-        0x00 if made(Mistake::TagZeroIsReset) => 0,
-        _ => return None,
-    })
-}
-
 /// Reads the first record of a rest that isn't empty; gives its length too.
+#[inline(always)]
 pub fn decode(rest: &[u8]) -> Result<(Step, usize), Unreadable> {
-    if made(Mistake::UnknownTagBeforeShortHeader) && body_length(rest[0]).is_none() {
+    if made(Mistake::UnknownTagBeforeShortHeader) && !(0x01..=0x0A).contains(&rest[0]) {
         return Err(Unreadable::UnknownTag(rest[0]));
     }
-    let (tag, low, high) = match *rest {
-        [tag, low, high, ..] => (tag, low, high),
+    let record = match *rest {
+        [tag, low, _, ref rest @ ..] if made(Mistake::LowLengthByteOnly) => Record { tag, length: low as u16, rest },
+        [tag, low, high, ref rest @ ..] => Record { tag, length: u16::from_le_bytes([low, high]), rest },
         _ => {
             here!();
             return Err(Unreadable::ShortHeader);
         }
     };
-    let needed = match body_length(tag) {
-        Some(needed) => needed,
-        None => {
+    let step = match record.tag {
+        0x01 => record.body::<0>().map(|_| Step::Reset)?,
+        0x02 => record.body::<2>().map(|body| Step::Read(number_16(body)))?,
+        0x03 => record.body::<6>().map(|body| Step::Write(number_16(body), written_word(&body[2..])))?,
+        0x04 => record.body::<0>().map(|_| Step::Idle)?,
+        0x05 => record.body::<2>().map(|body| Step::BitTimes(number_16(body)))?,
+        0x06 => record.body::<0>().map(|_| Step::Activity)?,
+        0x07 => record.body::<0>().map(|_| Step::Start)?,
+        0x08 => record.body::<1>().map(|body| Step::OwnEnd(body[0]))?,
+        0x09 => record.body::<13>().map(|body| Step::Frame(received_frame(body)))?,
+        0x0A => record.body::<2>().map(receive_error)?,
+        0x00 if made(Mistake::TagZeroIsReset) => record.body::<0>().map(|_| Step::Reset)?,
+        tag => {
             here!();
             return Err(Unreadable::UnknownTag(tag));
         }
     };
-    let high = if made(Mistake::LowLengthByteOnly) { 0 } else { high };
-    let length = u16::from_le_bytes([low, high]);
-    let end = HEADER_LENGTH + length as usize;
-    if made(Mistake::ShortBodyBeforeLength) && rest.len() < end {
-        return Err(Unreadable::ShortBody);
-    }
-    let long = length as usize > needed && made(Mistake::LongerLengthAccepted);
-    if length as usize != needed && !long {
-        here!();
-        return Err(Unreadable::WrongLength(tag, length));
-    }
-    let body = match rest.get(HEADER_LENGTH..end) {
-        Some(body) => body,
-        None => {
-            here!();
+    Ok((step, HEADER_LENGTH + record.length as usize))
+}
+
+/// A record whose header is read. Its body is the start of `rest`.
+struct Record<'a> {
+    tag: u8,
+    length: u16,
+    rest: &'a [u8],
+}
+
+impl<'a> Record<'a> {
+    /// The body of a tag whose bodies have `N` bytes.
+    #[inline]
+    fn body<const N: usize>(&self) -> Result<&'a [u8; N], Unreadable> {
+        let length = self.length as usize;
+        if made(Mistake::ShortBodyBeforeLength) && self.rest.len() < length {
             return Err(Unreadable::ShortBody);
         }
-    };
-    Ok((Step::from_body(tag, body), end))
+        let long = length > N && made(Mistake::LongerLengthAccepted);
+        if length != N && !long {
+            here!();
+            return Err(Unreadable::WrongLength(self.tag, self.length));
+        }
+        match self.rest.get(..length).and_then(|body| body[..N].try_into().ok()) {
+            Some(body) => Ok(body),
+            None => {
+                here!();
+                Err(Unreadable::ShortBody)
+            }
+        }
+    }
 }
 
 fn number_16(body: &[u8]) -> u16 {
@@ -152,29 +164,30 @@ fn number_32(body: &[u8]) -> u32 {
     u32::from_le_bytes([body[0], body[1], body[2], body[3]])
 }
 
-impl Step {
-    /// The step of a known tag whose body has the right length.
-    fn from_body(tag: u8, body: &[u8]) -> Step {
-        match tag {
-            0x02 => Step::Read(number_16(body)),
-            0x03 if made(Mistake::SwappedWordBytes) => Step::Write(number_16(body), number_32(&body[2..]).swap_bytes()),
-            0x03 => Step::Write(number_16(body), number_32(&body[2..])),
-            0x04 => Step::Idle,
-            0x05 => Step::BitTimes(number_16(body)),
-            0x06 => Step::Activity,
-            0x07 => Step::Start,
-            0x08 => Step::OwnEnd(body[0]),
-            0x09 => Step::Frame(Frame {
-                identifier: number_32(body),
-                length: body[4],
-                data: number_32(&body[5..]) as u64 | (number_32(&body[9..]) as u64) << 32,
-            }),
-            0x0A if made(Mistake::ReceiveErrorFieldsSwapped) => Step::ReceiveError { code: body[1], step: body[0] },
-            0x0A => Step::ReceiveError { code: body[0], step: body[1] },
-            _ => Step::Reset,
-        }
+fn written_word(body: &[u8]) -> u32 {
+    if made(Mistake::SwappedWordBytes) {
+        return number_32(body).swap_bytes();
     }
+    number_32(body)
+}
 
+fn received_frame(body: &[u8; 13]) -> Frame {
+    Frame {
+        identifier: number_32(body),
+        length: body[4],
+        data: number_32(&body[5..]) as u64 | (number_32(&body[9..]) as u64) << 32,
+    }
+}
+
+fn receive_error(&[first, second]: &[u8; 2]) -> Step {
+    if made(Mistake::ReceiveErrorFieldsSwapped) {
+        return Step::ReceiveError { code: second, step: first };
+    }
+    Step::ReceiveError { code: first, step: second }
+}
+
+impl Step {
+    #[inline(always)]
     pub fn apply(self, controller: &mut Controller) -> Answer {
         match self {
             Step::Reset => controller.hardware_reset(),
