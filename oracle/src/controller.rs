@@ -47,9 +47,8 @@ const LEC_BY_SOFTWARE: u8 = 7;
 pub struct Controller {
     mcr: u32,
     mode: Mode,
-    sleep_acknowledged: bool,
-    wakeup: bool,
-    error_interrupt: bool,
+    /// SLAKI, WKUI and ERRI as in MSR.
+    flags: u32,
     ier: u32,
     btr: u32,
     /// Nine bits and a little: up to 255 + 8.
@@ -78,9 +77,7 @@ impl Controller {
         Controller {
             mcr: mcr::AT_RESET,
             mode: Mode::Sleep,
-            sleep_acknowledged: false,
-            wakeup: false,
-            error_interrupt: false,
+            flags: 0,
             ier: 0,
             btr: btr::AT_RESET,
             tec: 0,
@@ -172,24 +169,18 @@ impl Controller {
         if cfg!(wrong) {
             return self.perhaps_wrong_lines();
         }
-        let enabled = |flag: bool, bit: u32| flag && self.ier & bit != 0;
-        let transmit = enabled(self.transmitter.any_completed(), ier::TMEIE);
-        let status = enabled(self.error_interrupt, ier::ERRIE)
-            || enabled(self.wakeup, ier::WKUIE)
-            || enabled(self.sleep_acknowledged, ier::SLKIE);
-        transmit as u8 | (self.fifo_line(0) as u8) << 1 | (self.fifo_line(1) as u8) << 2 | (status as u8) << 3
-    }
-
-    fn fifo_line(&self, x: usize) -> bool {
-        let enables = self.ier >> (ier::FIFO_PLACE + ier::BITS_PER_FIFO * x);
-        self.fifos[x].interrupt_sources() & enables & 7 != 0
+        let transmit = self.transmitter.any_completed() && self.ier & ier::TMEIE != 0;
+        let fifo = |x: usize| self.fifos[x].interrupt_sources() & ier::of_fifo(self.ier, x) != 0;
+        let status = self.flags & ier::of_flags(self.ier) != 0;
+        transmit as u8 | (fifo(0) as u8) << 1 | (fifo(1) as u8) << 2 | (status as u8) << 3
     }
 
     fn perhaps_wrong_lines(&self) -> u8 {
         let enabled = |flag: bool, bit: u32| flag && self.ier & bit != 0;
         let any_empty = (0..MAILBOXES).any(|x| self.transmitter.mailbox(x).is_empty());
         let completed = if made(Mistake::LineTmeNeedsEmpty) { any_empty } else { self.transmitter.any_completed() };
-        let mut fifos = [self.fifo_line(0), self.fifo_line(1)];
+        let fifo = |x: usize| self.fifos[x].interrupt_sources() & ier::of_fifo(self.ier, x) != 0;
+        let mut fifos = [fifo(0), fifo(1)];
         if made(Mistake::LinesOfFifosSwapped) {
             fifos.reverse();
         }
@@ -202,31 +193,28 @@ impl Controller {
         }
         let error = match made(Mistake::LineErrorsDirect) {
             true => self.error_flags() & (self.ier >> ier::ERROR_FLAGS_PLACE) & 7 != 0,
-            false => self.error_interrupt,
+            false => self.has(msr::ERRI),
         };
         let status = enabled(error, ier::ERRIE)
-            || enabled(self.wakeup, ier::WKUIE)
-            || enabled(self.sleep_acknowledged, ier::SLKIE)
-            || self.sleep_acknowledged && made(Mistake::LineSlakiIgnoresSlkie);
+            || enabled(self.has(msr::WKUI), ier::WKUIE)
+            || enabled(self.has(msr::SLAKI), ier::SLKIE)
+            || self.has(msr::SLAKI) && made(Mistake::LineSlakiIgnoresSlkie);
         enabled(completed, ier::TMEIE) as u8 | (fifos[0] as u8) << 1 | (fifos[1] as u8) << 2 | (status as u8) << 3
     }
 
     /// Ends every step: an accepted one may change the mode.
     fn conclude(&mut self, outcome: Outcome) -> Answer {
-        match outcome {
+        let early_lines = if made(Mistake::LinesBeforeModeChange) { self.lines() } else { 0 };
+        let (code, word) = match outcome {
             Ok(word) => {
-                let early_lines = if made(Mistake::LinesBeforeModeChange) { self.lines() } else { 0 };
                 self.follow_mode_request();
-                let late_lines = self.lines();
-                let lines = if made(Mistake::LinesBeforeModeChange) { early_lines } else { late_lines };
-                Answer { code: 0, lines, word }
+                (0, word)
             }
-            Err(refusal) => {
-                let shown = made(Mistake::RefusedWordKept) && refusal == Refusal::Protected;
-                let word = if shown { self.btr } else { 0 };
-                Answer { code: refusal as u8, lines: self.lines(), word }
-            }
-        }
+            Err(Refusal::Protected) if made(Mistake::RefusedWordKept) => (Refusal::Protected as u8, self.btr),
+            Err(refusal) => (refusal as u8, 0),
+        };
+        let lines = if made(Mistake::LinesBeforeModeChange) { early_lines } else { self.lines() };
+        Answer { code, lines, word }
     }
 }
 
@@ -282,6 +270,10 @@ impl Controller {
             return self.tec & 0xFF > limit;
         }
         self.tec > limit
+    }
+
+    fn has(&self, flag: u32) -> bool {
+        self.flags & flag != 0
     }
 
     fn option(&self, bit: u32) -> bool {
@@ -340,13 +332,11 @@ impl Controller {
     fn master_status(&self) -> u32 {
         let bit = |flag: bool, place: u32| if flag { place } else { 0 };
         let pins = msr::RX | msr::SAMP;
-        let dark = made(Mistake::RxReadsZero) && self.mode == Mode::Sleep && self.wakeup;
+        let dark = made(Mistake::RxReadsZero) && self.mode == Mode::Sleep && self.has(msr::WKUI);
         let transmitting = self.on_wire() && !made(Mistake::TxmNotShown);
         bit(!dark, pins)
             | bit(transmitting, msr::TXM)
-            | bit(self.sleep_acknowledged, msr::SLAKI)
-            | bit(self.wakeup, msr::WKUI)
-            | bit(self.error_interrupt, msr::ERRI)
+            | self.flags
             | bit(self.mode == Mode::Sleep, msr::SLAK)
             | bit(self.mode == Mode::Initialization, msr::INAK)
     }
@@ -470,9 +460,10 @@ impl Controller {
         self.mode = Mode::Sleep;
         self.fifos.iter_mut().for_each(Fifo::empty);
         self.transmitter.drop_requests();
-        self.sleep_acknowledged = made(Mistake::MasterResetSetsSlaki) && self.ier & ier::SLKIE != 0;
-        self.wakeup &= made(Mistake::MasterResetKeepsMsrFlags);
-        self.error_interrupt &= made(Mistake::MasterResetKeepsMsrFlags);
+        self.flags &= if made(Mistake::MasterResetKeepsMsrFlags) { msr::WKUI | msr::ERRI } else { 0 };
+        if made(Mistake::MasterResetSetsSlaki) && self.ier & ier::SLKIE != 0 {
+            self.flags |= msr::SLAKI;
+        }
         if !made(Mistake::MasterResetKeepsTimer) {
             self.timer = 0;
         }
@@ -511,10 +502,7 @@ impl Controller {
     }
 
     fn write_master_status(&mut self, word: u32) {
-        let all = made(Mistake::MsrClearsAll);
-        self.sleep_acknowledged &= word & msr::SLAKI == 0 && !all;
-        self.wakeup &= word & msr::WKUI == 0 && !all;
-        self.error_interrupt &= word & msr::ERRI == 0 && !all;
+        self.flags &= if made(Mistake::MsrClearsAll) { 0 } else { !word };
     }
 
     fn write_interrupt_enable(&mut self, word: u32) {
@@ -522,11 +510,11 @@ impl Controller {
         if made(Mistake::IerBit7Stored) {
             self.ier |= word & 0x80;
         }
-        if made(Mistake::SlakiWhenSlkieWritten) && self.mode == Mode::Sleep {
-            self.sleep_acknowledged |= word & ier::SLKIE != 0;
+        if made(Mistake::SlakiWhenSlkieWritten) && self.mode == Mode::Sleep && word & ier::SLKIE != 0 {
+            self.flags |= msr::SLAKI;
         }
-        if made(Mistake::ErriWhenEnabled) {
-            self.error_interrupt |= self.error_flags() & (self.ier >> ier::ERROR_FLAGS_PLACE) & 7 != 0;
+        if made(Mistake::ErriWhenEnabled) && self.error_flags() & (self.ier >> ier::ERROR_FLAGS_PLACE) & 7 != 0 {
+            self.flags |= msr::ERRI;
         }
     }
 
@@ -540,7 +528,7 @@ impl Controller {
             here!();
         }
         if code == LEC_BY_SOFTWARE && made(Mistake::Lec7SetsErri) && self.ier & ier::LECIE != 0 {
-            self.error_interrupt = true;
+            self.flags |= msr::ERRI;
         }
     }
 
@@ -594,7 +582,9 @@ impl Controller {
     fn enter_initialization(&mut self) {
         if self.mode == Mode::Sleep {
             here!();
-            self.sleep_acknowledged &= made(Mistake::SlakiKeptOnInit);
+            if !made(Mistake::SlakiKeptOnInit) {
+                self.flags &= !msr::SLAKI;
+            }
         } else {
             here!();
         }
@@ -620,7 +610,7 @@ impl Controller {
         self.mode = Mode::Sleep;
         if self.ier & ier::SLKIE != 0 || made(Mistake::SlakiWithoutSlkie) {
             here!();
-            self.sleep_acknowledged = true;
+            self.flags |= msr::SLAKI;
         } else {
             here!();
         }
@@ -636,7 +626,9 @@ impl Controller {
     fn enter_normal(&mut self) {
         if self.mode == Mode::Sleep {
             here!();
-            self.sleep_acknowledged &= made(Mistake::SlakiKeptOnWaking);
+            if !made(Mistake::SlakiKeptOnWaking) {
+                self.flags &= !msr::SLAKI;
+            }
         } else {
             here!();
         }
@@ -742,7 +734,9 @@ impl Controller {
             here!();
             return if made(Mistake::ActivityOutsideSleep) { DONE } else { Err(Refusal::WrongState) };
         }
-        self.wakeup |= !made(Mistake::ActivityNeedsWkuie) || self.ier & ier::WKUIE != 0;
+        if !made(Mistake::ActivityNeedsWkuie) || self.ier & ier::WKUIE != 0 {
+            self.flags |= msr::WKUI;
+        }
         if self.option(mcr::AWUM) || made(Mistake::ActivityAlwaysWakes) {
             here!();
             self.mcr &= !mcr::SLEEP;
@@ -1000,7 +994,7 @@ impl Controller {
         let deaf = made(Mistake::ErriNeedsErrie) && self.ier & ier::ERRIE == 0;
         if (rising & enabled != 0 || coded && self.ier & ier::LECIE != 0) && !deaf {
             here!();
-            self.error_interrupt = true;
+            self.flags |= msr::ERRI;
         } else {
             here!();
         }

@@ -69,8 +69,8 @@ pub struct Stored {
 pub struct Fifo {
     frames: [Stored; FIFO_DEPTH],
     pending: usize,
-    full: bool,
-    overrun: bool,
+    /// FULL and FOVR as in RFxR.
+    flags: u32,
 }
 
 impl Fifo {
@@ -92,12 +92,18 @@ impl Fifo {
             here!();
             self.frames[self.pending] = frame;
             self.pending += 1;
-            self.full |= self.pending == FIFO_DEPTH || self.pending == 2 && made(Mistake::FullAtTwo);
+            if self.pending == FIFO_DEPTH || self.pending == 2 && made(Mistake::FullAtTwo) {
+                self.flags |= rfr::FULL;
+            }
             remember(Slot::LockedWhenFilled, locked);
             return;
         }
-        self.overrun |= !(locked && made(Mistake::NoOverrunWhenLocked));
-        self.full |= made(Mistake::FourthFrameSetsFull);
+        if !(locked && made(Mistake::NoOverrunWhenLocked)) {
+            self.flags |= rfr::FOVR;
+        }
+        if made(Mistake::FourthFrameSetsFull) {
+            self.flags |= rfr::FULL;
+        }
         let locked = if made(Mistake::LockTakenWhenFilled) { recall(Slot::LockedWhenFilled) } else { locked };
         if locked != made(Mistake::LockReversed) {
             here!();
@@ -114,13 +120,11 @@ impl Fifo {
     pub fn write_status(&mut self, word: u32) {
         if word & rfr::FULL != 0 {
             here!();
-            self.full = false;
-            self.overrun &= !made(Mistake::FullClearsOverrunToo);
+            self.flags &= if made(Mistake::FullClearsOverrunToo) { 0 } else { !rfr::FULL };
         }
         if word & rfr::FOVR != 0 {
             here!();
-            self.overrun = false;
-            self.full &= !made(Mistake::OverrunClearsFullToo);
+            self.flags &= if made(Mistake::OverrunClearsFullToo) { 0 } else { !rfr::FOVR };
         }
         if word & rfr::RFOM != 0 && self.pending > 0 {
             here!();
@@ -129,8 +133,12 @@ impl Fifo {
     }
 
     fn release(&mut self) {
-        self.full &= !made(Mistake::FullClearedOnRelease);
-        self.overrun &= !made(Mistake::OverrunClearedOnRelease);
+        if made(Mistake::FullClearedOnRelease) {
+            self.flags &= !rfr::FULL;
+        }
+        if made(Mistake::OverrunClearedOnRelease) {
+            self.flags &= !rfr::FOVR;
+        }
         if made(Mistake::ReleaseDropsNewest) {
             self.pending -= 1;
             return;
@@ -143,20 +151,19 @@ impl Fifo {
 
     /// RFxR. RFOM reads 0: a release is done at once.
     pub fn status(&self) -> u32 {
-        self.pending as u32 | (self.full as u32) << 3 | (self.overrun as u32) << 4
+        self.pending as u32 | self.flags
     }
 
     /// FMP not 0, FULL and FOVR in the order of FMPIE, FFIE and FOVIE.
     pub fn interrupt_sources(&self) -> u32 {
-        (self.pending != 0) as u32 | (self.full as u32) << 1 | (self.overrun as u32) << 2
+        (self.pending != 0) as u32 | self.flags >> 2
     }
 
     pub fn empty(&mut self) {
         let before = *self;
         *self = Fifo::default();
         if made(Mistake::MasterResetKeepsFifoFlags) {
-            self.full = before.full;
-            self.overrun = before.overrun;
+            self.flags = before.flags;
         }
         if made(Mistake::MasterResetKeepsFifos) {
             *self = before;

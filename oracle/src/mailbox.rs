@@ -186,7 +186,7 @@ impl Transmitter {
     }
 
     pub fn any_completed(&self) -> bool {
-        self.mailboxes.iter().any(|mailbox| mailbox.has(tsr::RQCP))
+        self.mailboxes.iter().fold(0, |flags, mailbox| flags | mailbox.status) & tsr::RQCP != 0
     }
 
     /// A write to a word of an empty mailbox.

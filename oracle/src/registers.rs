@@ -54,9 +54,6 @@ pub mod rfr {
 
 pub mod ier {
     pub const TMEIE: u32 = 1 << 0;
-    /// FMPIE, FFIE, FOVIE of FIFO x stand together from bit 1 + 3x upward.
-    pub const FIFO_PLACE: usize = 1;
-    pub const BITS_PER_FIFO: usize = 3;
     /// EWGIE, EPVIE, BOFIE stand in the order of EWGF, EPVF, BOFF.
     pub const ERROR_FLAGS_PLACE: usize = 8;
     pub const LECIE: u32 = 1 << 11;
@@ -64,6 +61,16 @@ pub mod ier {
     pub const WKUIE: u32 = 1 << 16;
     pub const SLKIE: u32 = 1 << 17;
     pub const WRITABLE: u32 = 0x0003_8F7F;
+
+    /// FMPIE, FFIE, FOVIE of FIFO x, which stand together from bit 1 + 3x upward.
+    pub const fn of_fifo(word: u32, x: usize) -> u32 {
+        word >> (1 + 3 * x) & 7
+    }
+
+    /// ERRIE, WKUIE, SLKIE at the places of ERRI, WKUI, SLAKI in MSR.
+    pub const fn of_flags(word: u32) -> u32 {
+        word >> 13 & (super::msr::ERRI | super::msr::WKUI | super::msr::SLAKI)
+    }
 }
 
 pub mod esr {
