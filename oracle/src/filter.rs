@@ -150,44 +150,56 @@ impl Filters {
     /// The filter that takes a frame with this identifier word: of all active
     /// filters that match, the best class, then the lowest number, then FIFO 0.
     pub fn search(&self, identifier: u32) -> Option<Hit> {
-        let narrow = narrow_word(identifier);
-        for class in search_order() {
-            let hit = match class {
-                Class::WideList => self.best_hit(class, |r1, r2| wide_list(identifier, r1, r2)),
-                Class::WideMask => self.best_hit(class, |r1, r2| wide_mask(identifier, r1, r2)),
-                Class::NarrowList => self.best_hit(class, |r1, r2| narrow_list(narrow, r1, r2)),
-                Class::NarrowMask => self.best_hit(class, |r1, r2| narrow_mask(narrow, r1, r2)),
-            };
-            if hit.is_some() {
-                here!();
-                return hit;
-            }
+        let [first, second, third, fourth] = search_order();
+        let hit = self
+            .hit_of_class(first, identifier)
+            .or_else(|| self.hit_of_class(second, identifier))
+            .or_else(|| self.hit_of_class(third, identifier))
+            .or_else(|| self.hit_of_class(fourth, identifier));
+        if hit.is_some() {
+            here!();
+        } else {
+            here!();
         }
-        here!();
-        None
+        hit
+    }
+
+    #[inline(always)]
+    fn hit_of_class(&self, class: Class, identifier: u32) -> Option<Hit> {
+        let narrow = narrow_word(identifier);
+        match class {
+            Class::WideList => self.best_hit(class, |r1, r2| wide_list(identifier, r1, r2)),
+            Class::WideMask => self.best_hit(class, |r1, r2| wide_mask(identifier, r1, r2)),
+            Class::NarrowList => self.best_hit(class, |r1, r2| narrow_list(narrow, r1, r2)),
+            Class::NarrowMask => self.best_hit(class, |r1, r2| narrow_mask(narrow, r1, r2)),
+        }
     }
 
     /// The best hit among the active banks of one class. `first_match` gives
     /// the place within its bank of the first filter that matches.
-    #[inline(always)]
-    fn best_hit(&self, class: Class, first_match: impl Fn(u32, u32) -> Option<u8>) -> Option<Hit> {
-        let mut best: Option<Hit> = None;
-        let mut banks = self.active_banks(class);
+    #[inline]
+    fn best_hit(&self, class: Class, first_match: impl Fn(u32, u32) -> Option<u8> + Copy) -> Option<Hit> {
+        let (hit, later) = self.first_hit(self.active_banks(class), first_match)?;
+        // Later banks of the same FIFO have higher numbers.
+        let of_other_fifo = later & if hit.fifo == 0 { self.assignment } else { !self.assignment };
+        match self.first_hit(of_other_fifo, first_match) {
+            Some((other, _)) => Some(better(hit, other)),
+            None => Some(hit),
+        }
+    }
+
+    /// The hit of the lowest of these banks that has one, and the banks above it.
+    #[inline]
+    fn first_hit(&self, mut banks: u32, first_match: impl Fn(u32, u32) -> Option<u8>) -> Option<(Hit, u32)> {
         while banks != 0 {
             let bank = banks.trailing_zeros() as usize;
             banks &= banks - 1;
             let [r1, r2] = self.values[bank];
-            let position = match first_match(r1, r2) {
-                Some(position) => position,
-                None => continue,
-            };
-            let fifo = self.fifo_of(bank);
-            let hit = Hit { number: self.first_number[bank] + position, fifo };
-            // Later banks of the same FIFO have higher numbers.
-            banks &= if fifo == 0 { self.assignment } else { !self.assignment };
-            best = Some(best.map_or(hit, |other| better(other, hit)));
+            if let Some(position) = first_match(r1, r2) {
+                return Some((Hit { number: self.first_number[bank] + position, fifo: self.fifo_of(bank) }, banks));
+            }
         }
-        best
+        None
     }
 }
 
