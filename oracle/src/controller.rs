@@ -203,6 +203,7 @@ impl Controller {
     }
 
     /// Ends every step: an accepted one may change the mode.
+    #[inline]
     fn conclude(&mut self, outcome: Outcome) -> Answer {
         let early_lines = if made(Mistake::LinesBeforeModeChange) { self.lines() } else { 0 };
         let (code, word) = match outcome {
@@ -316,6 +317,7 @@ impl Controller {
         })
     }
 
+    #[inline]
     fn register_at(&self, offset: u16) -> Result<Register, Refusal> {
         if made(Mistake::UnalignedRoundedDown) {
             return Register::at(offset & !3).ok_or(Refusal::NotInMap);

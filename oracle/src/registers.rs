@@ -159,6 +159,7 @@ pub enum Register {
 
 impl Register {
     /// The register at an offset; none if unaligned or not in the map.
+    #[inline(always)]
     pub fn at(offset: u16) -> Option<Register> {
         if offset % 4 != 0 {
             here!();
