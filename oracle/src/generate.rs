@@ -54,9 +54,10 @@ pub enum Kind {
     Requests,
     FramesOnly,
     RegistersOnly,
+    MixInterrupts,
 }
 
-pub const KINDS: [(&str, Kind); 13] = [
+pub const KINDS: [(&str, Kind); 14] = [
     ("mix", Kind::Mix),
     ("transmit", Kind::Transmit),
     ("filters", Kind::Filters),
@@ -70,6 +71,7 @@ pub const KINDS: [(&str, Kind); 13] = [
     ("requests", Kind::Requests),
     ("frames-only", Kind::FramesOnly),
     ("registers-only", Kind::RegistersOnly),
+    ("mix-interrupts", Kind::MixInterrupts),
 ];
 
 /// The kinds that `mix` goes through.
@@ -100,6 +102,7 @@ pub fn generate(seed: u64, records: u64, kind: Kind) -> Vec<u8> {
         left: records,
         pool: Vec::new(),
         observing: 60,
+        interrupts: kind == Kind::MixInterrupts,
     };
     generator.emit(Step::Reset);
     generator.new_pool();
@@ -107,7 +110,7 @@ pub fn generate(seed: u64, records: u64, kind: Kind) -> Vec<u8> {
         Kind::Requests => generator.many_requests(),
         Kind::FramesOnly => generator.frames_only(),
         Kind::RegistersOnly => generator.registers_only(),
-        Kind::Mix => generator.mix(),
+        Kind::Mix | Kind::MixInterrupts => generator.mix(),
         kind => generator.one_kind(kind),
     }
     generator.script
@@ -122,11 +125,27 @@ struct Generator {
     pool: Vec<u32>,
     /// How often, in percent, a step is followed by a read of what it touches.
     observing: u64,
+    /// IER is written after each hardware reset, and never as 0.
+    interrupts: bool,
 }
 
 /// Emitting and looking.
 impl Generator {
     fn emit(&mut self, step: Step) -> Answer {
+        match step {
+            Step::Write(at::IER, word) if self.interrupts && word & ier::WRITABLE == 0 => {
+                self.append(Step::Write(at::IER, word | ier::WRITABLE))
+            }
+            Step::Reset if self.interrupts => {
+                let answer = self.append(Step::Reset);
+                self.append(Step::Write(at::IER, ier::WRITABLE));
+                answer
+            }
+            step => self.append(step),
+        }
+    }
+
+    fn append(&mut self, step: Step) -> Answer {
         if self.left == 0 {
             return Answer { code: 0xFF, ..Answer::default() };
         }
