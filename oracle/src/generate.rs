@@ -54,10 +54,11 @@ pub enum Kind {
     Requests,
     FramesOnly,
     RegistersOnly,
+    RegistersAccepted,
     MixInterrupts,
 }
 
-pub const KINDS: [(&str, Kind); 14] = [
+pub const KINDS: [(&str, Kind); 15] = [
     ("mix", Kind::Mix),
     ("transmit", Kind::Transmit),
     ("filters", Kind::Filters),
@@ -71,6 +72,7 @@ pub const KINDS: [(&str, Kind); 14] = [
     ("requests", Kind::Requests),
     ("frames-only", Kind::FramesOnly),
     ("registers-only", Kind::RegistersOnly),
+    ("registers-accepted", Kind::RegistersAccepted),
     ("mix-interrupts", Kind::MixInterrupts),
 ];
 
@@ -103,13 +105,14 @@ pub fn generate(seed: u64, records: u64, kind: Kind) -> Vec<u8> {
         pool: Vec::new(),
         observing: 60,
         interrupts: kind == Kind::MixInterrupts,
+        accepted_only: kind == Kind::RegistersAccepted,
     };
     generator.emit(Step::Reset);
     generator.new_pool();
     match kind {
         Kind::Requests => generator.many_requests(),
         Kind::FramesOnly => generator.frames_only(),
-        Kind::RegistersOnly => generator.registers_only(),
+        Kind::RegistersOnly | Kind::RegistersAccepted => generator.registers_only(),
         Kind::Mix | Kind::MixInterrupts => generator.mix(),
         kind => generator.one_kind(kind),
     }
@@ -127,6 +130,8 @@ struct Generator {
     observing: u64,
     /// IER is written after each hardware reset, and never as 0.
     interrupts: bool,
+    /// Steps that would be refused are left out.
+    accepted_only: bool,
 }
 
 /// Emitting and looking.
@@ -146,7 +151,7 @@ impl Generator {
     }
 
     fn append(&mut self, step: Step) -> Answer {
-        if self.left == 0 {
+        if self.left == 0 || self.accepted_only && step.apply(&mut self.bench.clone()).code != 0 {
             return Answer { code: 0xFF, ..Answer::default() };
         }
         self.left -= 1;
