@@ -36,35 +36,35 @@ fn number32(b: &[u8], i: usize) -> u32
 
 // ---- a decoder for each tag that has a body
 
-fn read_step(b: &[u8]) -> Step
+pub(crate) fn read_step(b: &[u8]) -> Step
     requires { ⌜ 2 ≤ length (now b) ⌝ }
     ensures { λ r. ⌜ r ≡ step.Read (scripts.number16 (now (b .entry)) 0) ⌝ }
 {
     Step::Read(number16(b, 0))
 }
 
-fn write_step(b: &[u8]) -> Step
+pub(crate) fn write_step(b: &[u8]) -> Step
     requires { ⌜ 6 ≤ length (now b) ⌝ }
     ensures { λ r. ⌜ r ≡ step.Write (scripts.number16 (now (b .entry)) 0) (scripts.number32 (now (b .entry)) 2) ⌝ }
 {
     Step::Write(number16(b, 0), number32(b, 2))
 }
 
-fn bit_times_step(b: &[u8]) -> Step
+pub(crate) fn bit_times_step(b: &[u8]) -> Step
     requires { ⌜ 2 ≤ length (now b) ⌝ }
     ensures { λ r. ⌜ r ≡ step.BitTimes (scripts.number16 (now (b .entry)) 0) ⌝ }
 {
     Step::BitTimes(number16(b, 0))
 }
 
-fn outcome_step(b: &[u8]) -> Step
+pub(crate) fn outcome_step(b: &[u8]) -> Step
     requires { ⌜ 1 ≤ length (now b) ⌝ }
     ensures { λ r. ⌜ r ≡ step.Outcome (scripts.byteAt (now (b .entry)) 0) ⌝ }
 {
     Step::Outcome(b[0])
 }
 
-fn receive_step(b: &[u8]) -> Step
+pub(crate) fn receive_step(b: &[u8]) -> Step
     requires { ⌜ 13 ≤ length (now b) ⌝ }
     ensures { λ r. ⌜ r ≡ step.Receive (record { identifier = (scripts.number32 (now (b .entry)) 0); low = (scripts.number32 (now (b .entry)) 5); high = (scripts.number32 (now (b .entry)) 9); length = (scripts.byteAt (now (b .entry)) 4) }) ⌝ }
 {
@@ -80,28 +80,9 @@ fn receive_step(b: &[u8]) -> Step
     })
 }
 
-fn receive_error_step(b: &[u8]) -> Step
+pub(crate) fn receive_error_step(b: &[u8]) -> Step
     requires { ⌜ 2 ≤ length (now b) ⌝ }
     ensures { λ r. ⌜ r ≡ step.ReceiveError (scripts.byteAt (now (b .entry)) 0) (scripts.byteAt (now (b .entry)) 1) ⌝ }
 {
     Step::ReceiveError(b[0], b[1])
-}
-
-// The step of a tag and its body.
-pub(crate) fn decoded(tag: u8, b: &[u8]) -> Step
-    requires { ⌜ (scripts.isTag tag ≡ true) × (scripts.bodyLength tag ≤ length (now b)) ⌝ }
-    ensures { λ r. ⌜ r ≡ scripts.decoded tag (now (b .entry)) ⌝ }
-{
-    match tag {
-        1 => Step::Reset,
-        2 => read_step(b),
-        3 => write_step(b),
-        4 => Step::Idle,
-        5 => bit_times_step(b),
-        6 => Step::Activity,
-        7 => Step::Start,
-        8 => outcome_step(b),
-        9 => receive_step(b),
-        _ => receive_error_step(b),
-    }
 }

@@ -2,14 +2,9 @@
 ghost use mathlib.Core.Path.{_≡_};
 ghost use Rattle.model.specs.Script as scripts;
 use model::Reading;
+use model::Step;
 
 mod decode; // decode.rt: the step of a record's body
-
-fn is_tag(tag: u8) -> bool
-    ensures { λ r. ⌜ r ≡ scripts.isTag tag ⌝ }
-{
-    (1 <= tag) & (tag <= 10)
-}
 
 // The length of the body that a tag has.
 pub fn body_length(tag: u8) -> usize
@@ -38,22 +33,95 @@ pub fn reading(script: &[u8], place: usize) -> Reading
     if left < 3 {
         return Reading::Malformed(6);
     }
-    let tag = script[place];
-    if !is_tag(tag) {
-        return Reading::Malformed(7);
-    }
     let i = place + 1;
     let j = i + 1;
-    let length = decode::pair(script[i], script[j]) as usize;
-    let body = body_length(tag);
-    if length != body {
-        return Reading::Malformed(8);
-    }
-    let whole = 3 + body;
-    if left < whole {
-        return Reading::Malformed(6);
-    }
+    let length = decode::pair(script[i], script[j]);
     let a = place + 3;
-    let b = a + body;
-    Reading::Found(decode::decoded(tag, &script[a..b]), b)
+    match script[place] {
+        1 => {
+            if length != 0 {
+                return Reading::Malformed(8);
+            }
+            Reading::Found(Step::Reset, a)
+        }
+        2 => {
+            if length != 2 {
+                return Reading::Malformed(8);
+            }
+            if left < 5 {
+                return Reading::Malformed(6);
+            }
+            let b = a + 2;
+            Reading::Found(decode::read_step(&script[a..b]), b)
+        }
+        3 => {
+            if length != 6 {
+                return Reading::Malformed(8);
+            }
+            if left < 9 {
+                return Reading::Malformed(6);
+            }
+            let b = a + 6;
+            Reading::Found(decode::write_step(&script[a..b]), b)
+        }
+        4 => {
+            if length != 0 {
+                return Reading::Malformed(8);
+            }
+            Reading::Found(Step::Idle, a)
+        }
+        5 => {
+            if length != 2 {
+                return Reading::Malformed(8);
+            }
+            if left < 5 {
+                return Reading::Malformed(6);
+            }
+            let b = a + 2;
+            Reading::Found(decode::bit_times_step(&script[a..b]), b)
+        }
+        6 => {
+            if length != 0 {
+                return Reading::Malformed(8);
+            }
+            Reading::Found(Step::Activity, a)
+        }
+        7 => {
+            if length != 0 {
+                return Reading::Malformed(8);
+            }
+            Reading::Found(Step::Start, a)
+        }
+        8 => {
+            if length != 1 {
+                return Reading::Malformed(8);
+            }
+            if left < 4 {
+                return Reading::Malformed(6);
+            }
+            let b = a + 1;
+            Reading::Found(decode::outcome_step(&script[a..b]), b)
+        }
+        9 => {
+            if length != 13 {
+                return Reading::Malformed(8);
+            }
+            if left < 16 {
+                return Reading::Malformed(6);
+            }
+            let b = a + 13;
+            Reading::Found(decode::receive_step(&script[a..b]), b)
+        }
+        10 => {
+            if length != 2 {
+                return Reading::Malformed(8);
+            }
+            if left < 5 {
+                return Reading::Malformed(6);
+            }
+            let b = a + 2;
+            Reading::Found(decode::receive_error_step(&script[a..b]), b)
+        }
+        _ => Reading::Malformed(7),
+    }
 }

@@ -8,59 +8,6 @@ use model::Mailbox;
 use model::Register;
 use model::Step;
 
-fn control_register(o: u16) -> Register
-    ensures { λ r. ⌜ r ≡ registers.controlRegister o ⌝ }
-{
-    match o {
-        0x00 => Register::Mcr,
-        0x04 => Register::Msr,
-        0x08 => Register::Tsr,
-        0x0C => Register::Rfr(Fifo::F0),
-        0x10 => Register::Rfr(Fifo::F1),
-        0x14 => Register::Ier,
-        0x18 => Register::Esr,
-        0x1C => Register::Btr,
-        _ => Register::Absent,
-    }
-}
-
-fn mailbox_register(m: Mailbox, k: u16) -> Register
-    ensures { λ r. ⌜ r ≡ registers.mailboxRegister m k ⌝ }
-{
-    match k {
-        0 => Register::Ti(m),
-        4 => Register::Tdt(m),
-        8 => Register::Tdl(m),
-        12 => Register::Tdh(m),
-        _ => Register::Absent,
-    }
-}
-
-fn output_register(f: Fifo, k: u16) -> Register
-    ensures { λ r. ⌜ r ≡ registers.outputRegister f k ⌝ }
-{
-    match k {
-        0 => Register::Ri(f),
-        4 => Register::Rdt(f),
-        8 => Register::Rdl(f),
-        12 => Register::Rdh(f),
-        _ => Register::Absent,
-    }
-}
-
-fn block_register(b: u16, k: u16) -> Register
-    ensures { λ r. ⌜ r ≡ registers.blockRegister b k ⌝ }
-{
-    match b {
-        0x18 => mailbox_register(Mailbox::M0, k),
-        0x19 => mailbox_register(Mailbox::M1, k),
-        0x1A => mailbox_register(Mailbox::M2, k),
-        0x1B => output_register(Fifo::F0, k),
-        0x1C => output_register(Fifo::F1, k),
-        _ => Register::Absent,
-    }
-}
-
 fn bank_register(b: Bank, k: u16) -> Register
     ensures { λ r. ⌜ r ≡ registers.bankRegister b k ⌝ }
 {
@@ -71,10 +18,39 @@ fn bank_register(b: Bank, k: u16) -> Register
     }
 }
 
-fn filter_register(o: u16) -> Register
-    ensures { λ r. ⌜ r ≡ registers.filterRegister registers.bankCount o ⌝ }
+// One match over all offsets but those of the banks: what follows by register is then one jump.
+pub fn register_at(o: u16) -> Register
+    ensures { λ r. ⌜ r ≡ registers.registerAt o ⌝ }
 {
     match o {
+        0x000 => Register::Mcr,
+        0x004 => Register::Msr,
+        0x008 => Register::Tsr,
+        0x00C => Register::Rfr(Fifo::F0),
+        0x010 => Register::Rfr(Fifo::F1),
+        0x014 => Register::Ier,
+        0x018 => Register::Esr,
+        0x01C => Register::Btr,
+        0x180 => Register::Ti(Mailbox::M0),
+        0x184 => Register::Tdt(Mailbox::M0),
+        0x188 => Register::Tdl(Mailbox::M0),
+        0x18C => Register::Tdh(Mailbox::M0),
+        0x190 => Register::Ti(Mailbox::M1),
+        0x194 => Register::Tdt(Mailbox::M1),
+        0x198 => Register::Tdl(Mailbox::M1),
+        0x19C => Register::Tdh(Mailbox::M1),
+        0x1A0 => Register::Ti(Mailbox::M2),
+        0x1A4 => Register::Tdt(Mailbox::M2),
+        0x1A8 => Register::Tdl(Mailbox::M2),
+        0x1AC => Register::Tdh(Mailbox::M2),
+        0x1B0 => Register::Ri(Fifo::F0),
+        0x1B4 => Register::Rdt(Fifo::F0),
+        0x1B8 => Register::Rdl(Fifo::F0),
+        0x1BC => Register::Rdh(Fifo::F0),
+        0x1C0 => Register::Ri(Fifo::F1),
+        0x1C4 => Register::Rdt(Fifo::F1),
+        0x1C8 => Register::Rdl(Fifo::F1),
+        0x1CC => Register::Rdh(Fifo::F1),
         0x200 => Register::Fmr,
         0x204 => Register::Fm1r,
         0x20C => Register::Fs1r,
@@ -91,18 +67,6 @@ fn filter_register(o: u16) -> Register
             bank_register(Bank(i as u32), o % 8)
         }
     }
-}
-
-pub fn register_at(o: u16) -> Register
-    ensures { λ r. ⌜ r ≡ registers.registerAt o ⌝ }
-{
-    if o < 0x20 {
-        return control_register(o);
-    }
-    if o < 0x200 {
-        return block_register(o / 16, o % 16);
-    }
-    filter_register(o)
 }
 
 // The offset of a register access; any other step has 1, which names no register.
