@@ -1,6 +1,8 @@
 // Modes, error counters, the timer, and the registers MCR, MSR, IER, BTR, ESR.
 // Each function is the definition of the same name in model's specs/Control.antt.
 ghost use mathlib.Core.Path.{_≡_};
+ghost use mathlib.Core.Bool.{_&&_, _||_};
+ghost use lib.Dec.{leb, ltb};
 ghost use Rattle.model.specs.Control as control;
 use bits::bit;
 use bits::one;
@@ -117,22 +119,51 @@ pub fn mode_bits(m: Mode) -> u8
 
 // ---- error state
 
+// By the counters: handed on from function to function, the struct of four bytes becomes one integer, and every step packs it.
+fn is_warning(tec: u16, rec: u8) -> bool
+    ensures { λ r. ⌜ r ≡ leb 96 tec || leb 96 rec ⌝ }
+{
+    (96 <= tec) | (96 <= rec)
+}
+
+fn is_passive(tec: u16, rec: u8) -> bool
+    ensures { λ r. ⌜ r ≡ ltb 127 tec || ltb 127 rec ⌝ }
+{
+    (127 < tec) | (127 < rec)
+}
+
+fn is_off(tec: u16) -> bool
+    ensures { λ r. ⌜ r ≡ ltb 255 tec ⌝ }
+{
+    255 < tec
+}
+
 pub fn ewgf(e: Errors) -> bool
     ensures { λ r. ⌜ r ≡ control.ewgf e ⌝ }
 {
-    (96 <= e.tec) | (96 <= e.rec)
+    is_warning(e.tec, e.rec)
 }
 
 pub fn epvf(e: Errors) -> bool
     ensures { λ r. ⌜ r ≡ control.epvf e ⌝ }
 {
-    (127 < e.tec) | (127 < e.rec)
+    is_passive(e.tec, e.rec)
 }
 
 pub fn boff(e: Errors) -> bool
     ensures { λ r. ⌜ r ≡ control.boff e ⌝ }
 {
-    255 < e.tec
+    is_off(e.tec)
+}
+
+pub fn same_errors(e: Errors) -> Errors
+    ensures { λ r. ⌜ r ≡ e ⌝ }
+{
+    Errors {
+        tec: e.tec,
+        rec: e.rec,
+        lec: e.lec,
+    }
 }
 
 // ---- modes
@@ -328,9 +359,9 @@ pub fn msr_word(k: Control, free: bool) -> u32
 pub fn esr_word(e: Errors) -> u32
     ensures { λ r. ⌜ r ≡ control.esrWord e ⌝ }
 {
-    one(ewgf(e))
-        + one(epvf(e)) * 2
-        + one(boff(e)) * 4
+    one(is_warning(e.tec, e.rec))
+        + one(is_passive(e.tec, e.rec)) * 2
+        + one(is_off(e.tec)) * 4
         + (e.lec as u32) * 16
         + (e.tec as u32) % 256 * 0x10000
         + (e.rec as u32) * 0x1000000
@@ -344,26 +375,34 @@ pub fn status_line(k: Control) -> bool
 
 // ---- bus events
 
+// In bus-off (`off`) an idle counts towards recovery.
+fn counts(k: Control, off: bool) -> bool
+    ensures { λ r. ⌜ r ≡ off && (control.isNormal (k .mode) && (control.abom k || k .reinitialized)) ⌝ }
+{
+    let m = k.mode;
+    off & (is_normal(m) & (abom(k) | k.reinitialized))
+}
+
 pub fn idle_counts(k: Control, e: Errors) -> bool
     ensures { λ r. ⌜ r ≡ control.idleCounts k e ⌝ }
 {
-    let m = k.mode;
-    boff(e) & is_normal(m) & (abom(k) | k.reinitialized)
+    counts(k, is_off(e.tec))
 }
 
 pub fn recovers(k: Control, e: Errors) -> bool
     ensures { λ r. ⌜ r ≡ control.recovers k e ⌝ }
 {
-    idle_counts(k, e) & (127 <= k.recovery)
+    counts(k, is_off(e.tec)) & (127 <= k.recovery)
 }
 
 pub fn counted(k: Control, e: Errors) -> Control
     ensures { λ r. ⌜ r ≡ control.counted k e ⌝ }
 {
-    let over = recovers(k, e);
+    let one_more = counts(k, is_off(e.tec));
+    let over = one_more & (127 <= k.recovery);
     let more = std::num::wrapping_add_u8(k.recovery, 1);
     let mut d = k;
-    d.recovery = pick_u8(over, 0, pick_u8(idle_counts(k, e), more, k.recovery));
+    d.recovery = pick_u8(over, 0, pick_u8(one_more, more, k.recovery));
     d.reinitialized = k.reinitialized & !over;
     same_control(d)
 }
@@ -381,13 +420,13 @@ pub fn idled(k: Control, e: Errors) -> Control
     ensures { λ r. ⌜ r ≡ control.idled k e ⌝ }
 {
     let m = k.mode;
-    entered(counted(k, e), idle_mode(m, k.mcr), boff(e))
+    entered(counted(k, e), idle_mode(m, k.mcr), is_off(e.tec))
 }
 
 pub fn idle_errors(k: Control, e: Errors) -> Errors
     ensures { λ r. ⌜ r ≡ control.idleErrors k e ⌝ }
 {
-    let over = recovers(k, e);
+    let over = counts(k, is_off(e.tec)) & (127 <= k.recovery);
     Errors {
         tec: pick_u16(over, 0, e.tec),
         rec: pick_u8(over, 0, e.rec),
@@ -453,7 +492,11 @@ pub fn outcome_errors(e: Errors, r: u8) -> Errors
         };
     }
     if r == 7 {
-        return e;
+        return Errors {
+            tec: e.tec,
+            rec: e.rec,
+            lec: e.lec,
+        };
     }
     Errors {
         tec: std::num::wrapping_add_u16(e.tec, 8),
@@ -495,11 +538,11 @@ pub fn errors_changed(k: Control, e: Errors, d: Errors, coded: bool) -> Control
     ensures { λ r. ⌜ r ≡ control.errorsChanged k e d coded ⌝ }
 {
     let mode = k.mode;
-    let off = boff(d);
+    let off = is_off(d.tec);
     let erri = k.erri
-        | (bit(8, k.ier) & ewgf(d) & !ewgf(e))
-        | (bit(9, k.ier) & epvf(d) & !epvf(e))
-        | (bit(10, k.ier) & off & !boff(e))
+        | (bit(8, k.ier) & is_warning(d.tec, d.rec) & !is_warning(e.tec, e.rec))
+        | (bit(9, k.ier) & is_passive(d.tec, d.rec) & !is_passive(e.tec, e.rec))
+        | (bit(10, k.ier) & off & !is_off(e.tec))
         | (bit(11, k.ier) & coded);
     Control {
         mcr: k.mcr,

@@ -1,1 +1,1 @@
-pub mod Shifts
+pub mod Masks

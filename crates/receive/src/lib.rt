@@ -1,7 +1,7 @@
 // Frames and the two FIFOs of three.
 // Each function is the definition of the same name in model's specs/Reception.antt.
 ghost use mathlib.Core.Path.{_≡_};
-ghost use Prim.Native.Nat.{_-_};
+ghost use Prim.Native.Nat.{_≤_, _*_, _-_, _^_};
 ghost use Rattle.model.specs.Mailboxes as mailboxes;
 ghost use Rattle.model.specs.Reception as reception;
 use bits::bit;
@@ -35,34 +35,29 @@ pub fn data_bytes(x: Frame) -> u8
     x.length
 }
 
-pub fn bytes_kept(n: u8, w: u32) -> u32
-    ensures { λ r. ⌜ r ≡ reception.bytesKept n w ⌝ }
+// The 64 bits of eight bytes with the first n of them as 1: no branch on a length that changes from frame to frame.
+fn bytes_mask(n: u8) -> u64
+    requires { ⌜ n ≤ 8 ⌝ }
+    ensures { λ r. ⌜ r ≡ 2 ^ (8 * n) - 1 ⌝ }
 {
-    if 4 <= n {
-        return w;
+    if n == 8 {
+        return 0xFFFFFFFFFFFFFFFF;
     }
-    let width = 8 * (n as u32);
-    w % (1 << width)
-}
-
-fn past_four(n: u8) -> u8
-    ensures { λ r. ⌜ r ≡ n - 4 ⌝ }
-{
-    if n < 4 {
-        return 0;
-    }
-    n - 4
+    let width = 8 * (n as u64);
+    (1 << width) - 1
 }
 
 pub fn stored_frame(x: Frame, fmi: FilterNumber, time: u16) -> StoredFrame
     ensures { λ r. ⌜ r ≡ reception.storedFrame x fmi time ⌝ }
 {
-    let n = data_bytes(x);
+    let mask = bytes_mask(data_bytes(x));
+    let low = mask % 0x100000000;
+    let high = mask >> 32;
     StoredFrame {
         ri: x.identifier,
         rdt: (x.length as u32) + (fmi.0 as u32) * 256 + (time as u32) * 65536,
-        rdl: bytes_kept(n, x.low),
-        rdh: bytes_kept(past_four(n), x.high),
+        rdl: x.low & (low as u32),
+        rdh: x.high & (high as u32),
     }
 }
 

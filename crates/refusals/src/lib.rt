@@ -2,11 +2,12 @@
 ghost use mathlib.Core.Path.{_≡_};
 ghost use Rattle.model.specs.Registers as map;
 ghost use Rattle.model.specs.Step as stepping;
-ghost use Rattle.refusals.specs.Decoded as decoded;
+ghost use Rattle.model.specs.declared.Step.the-variants as steps;
 use model::Core;
+use model::Frame;
 use model::Mailbox;
 use model::Register;
-use model::Step;
+use model::Sender;
 
 pub fn has_request(c: Core, m: Mailbox) -> bool
     ensures { λ r. ⌜ r ≡ map.hasRequest c m ⌝ }
@@ -16,12 +17,16 @@ pub fn has_request(c: Core, m: Mailbox) -> bool
     queue::holds(o, m)
 }
 
+// Matched here: handed on to a function, the two bytes become one integer, which every step packs.
 pub fn is_free(c: Core) -> bool
     ensures { λ r. ⌜ r ≡ map.isFree c ⌝ }
 {
     let q = c.transmit.queue;
     let s = q.transmitting;
-    queue::is_nobody(s)
+    match s {
+        Sender::Nobody => true,
+        Sender::From(_) => false,
+    }
 }
 
 pub fn may_start(c: Core) -> bool
@@ -29,11 +34,10 @@ pub fn may_start(c: Core) -> bool
 {
     let k = c.control;
     let m = k.mode;
-    let e = c.errors;
     let q = c.transmit.queue;
     let o = q.order;
     control::is_normal(m)
-        & !control::boff(e)
+        & !control::boff(c.errors)
         & is_free(c)
         & !queue::is_empty(o)
         & !(control::silm(k) & !control::lbkm(k))
@@ -51,9 +55,8 @@ pub fn may_receive(c: Core) -> bool
 {
     let k = c.control;
     let m = k.mode;
-    let e = c.errors;
     let g = c.filters;
-    control::is_normal(m) & !control::boff(e) & is_free(c) & !control::lbkm(k) & !g.finit
+    control::is_normal(m) & !control::boff(c.errors) & is_free(c) & !control::lbkm(k) & !g.finit
 }
 
 pub fn receive_error_in_range(k: u8, n: u8) -> bool
@@ -63,7 +66,7 @@ pub fn receive_error_in_range(k: u8, n: u8) -> bool
 }
 
 // Codes 1, 3 and 2 of a write.
-fn write_refusal(g: Register, c: Core) -> u8
+pub fn write_refusal(g: Register, c: Core) -> u8
     ensures { λ r. ⌜ r ≡ map.writeRefusal g c ⌝ }
 {
     let f = c.filters;
@@ -98,39 +101,31 @@ fn write_refusal(g: Register, c: Core) -> u8
     }
 }
 
-// The code of a step; g is the register that it reads or writes.
-pub fn refusal_at(c: Core, e: Step, g: Register) -> u8
-    ensures { λ r. ⌜ r ≡ decoded.refusalAt c e g ⌝ }
+// ---- the codes of the events that have more than one
+
+pub fn outcome_refusal(c: Core, result: u8) -> u8
+    ensures { λ r. ⌜ r ≡ stepping.refusal c (steps.Outcome result) ⌝ }
 {
-    match e {
-        Step::Reset => 0,
-        Step::Read(_) => bits::pick_u8(registers::is_absent(g), 1, 0),
-        Step::Write(_, _) => write_refusal(g, c),
-        Step::Idle => bits::pick_u8(is_free(c), 0, 4),
-        Step::BitTimes(n) => bits::pick_u8((1 <= n) & (n <= 65535), 0, 5),
-        Step::Activity => {
-            let k = c.control;
-            let m = k.mode;
-            bits::pick_u8(control::is_sleep(m), 0, 4)
-        }
-        Step::Start => bits::pick_u8(may_start(c), 0, 4),
-        Step::Outcome(r) => {
-            if 7 < r {
-                return 5;
-            }
-            bits::pick_u8(may_end(c, r), 0, 4)
-        }
-        Step::Receive(x) => {
-            if receive::malformed(x) {
-                return 5;
-            }
-            bits::pick_u8(may_receive(c), 0, 4)
-        }
-        Step::ReceiveError(k, n) => {
-            if receive_error_in_range(k, n) {
-                return bits::pick_u8(may_receive(c), 0, 4);
-            }
-            5
-        }
+    if 7 < result {
+        return 5;
     }
+    bits::pick_u8(may_end(c, result), 0, 4)
+}
+
+pub fn frame_refusal(c: Core, x: Frame) -> u8
+    ensures { λ r. ⌜ r ≡ stepping.refusal c (steps.Receive x) ⌝ }
+{
+    if receive::malformed(x) {
+        return 5;
+    }
+    bits::pick_u8(may_receive(c), 0, 4)
+}
+
+pub fn receive_error_refusal(c: Core, code: u8, by: u8) -> u8
+    ensures { λ r. ⌜ r ≡ stepping.refusal c (steps.ReceiveError code by) ⌝ }
+{
+    if receive_error_in_range(code, by) {
+        return bits::pick_u8(may_receive(c), 0, 4);
+    }
+    5
 }

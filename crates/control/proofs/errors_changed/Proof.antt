@@ -1,34 +1,35 @@
+-- Each flag of the error state, before and after, is what its function ensures of the counters.
 use Rattle.model.specs.Control.{errorsChanged}
 use borrow.Author.Needs.{needs}
 use Rattle.control.proofs.errors_changed.Statement.{statement}
 use Rattle.control.proofs.errors_changed.Tie as tie
 
-boff-requires : tie.Need-boff-requires
-boff-requires c κs = search needs
+is-off-requires : tie.Need-is-off-requires
+is-off-requires c κs = search needs
 
 bit-requires : tie.Need-bit-requires
 bit-requires c κs = search needs
 
-ewgf-requires : tie.Need-ewgf-requires
-ewgf-requires c κs = search needs
+is-warning-requires : tie.Need-is-warning-requires
+is-warning-requires c κs = search needs
 
-ewgf-requires-2 : tie.Need-ewgf-requires-2
-ewgf-requires-2 c κs = search needs
+is-warning-requires-2 : tie.Need-is-warning-requires-2
+is-warning-requires-2 c κs = search needs
 
 bit-requires-2 : tie.Need-bit-requires-2
 bit-requires-2 c κs = search needs
 
-epvf-requires : tie.Need-epvf-requires
-epvf-requires c κs = search needs
+is-passive-requires : tie.Need-is-passive-requires
+is-passive-requires c κs = search needs
 
-epvf-requires-2 : tie.Need-epvf-requires-2
-epvf-requires-2 c κs = search needs
+is-passive-requires-2 : tie.Need-is-passive-requires-2
+is-passive-requires-2 c κs = search needs
 
 bit-requires-3 : tie.Need-bit-requires-3
 bit-requires-3 c κs = search needs
 
-boff-requires-2 : tie.Need-boff-requires-2
-boff-requires-2 c κs = search needs
+is-off-requires-2 : tie.Need-is-off-requires-2
+is-off-requires-2 c κs = search needs
 
 bit-requires-4 : tie.Need-bit-requires-4
 bit-requires-4 c κs = search needs
@@ -38,21 +39,21 @@ pick-u8-requires c κs = search needs
 
 returns : tie.Need-returns
 unfolding errorsChanged
-returns c = simp (c .before .pick-u8 .ensures, c .before .before .bit4 .ensures, c .before .before .before .boff2 .ensures, c .before .before .before .before .bit3 .ensures, c .before .before .before .before .before .epvf2 .ensures, c .before .before .before .before .before .before .epvf .ensures, c .before .before .before .before .before .before .before .bit2 .ensures, c .before .before .before .before .before .before .before .before .before .ewgf2 .ensures, c .before .before .before .before .before .before .before .before .before .before .ewgf .ensures, c .before .before .before .before .before .before .before .before .before .before .before .bit .ensures, c .before .before .before .before .before .before .before .before .before .before .before .before .boff .ensures)
+returns c = simp (c .before .pick-u8 .ensures, c .before .before .bit4 .ensures, c .before .before .before .is-off2 .ensures, c .before .before .before .before .bit3 .ensures, c .before .before .before .before .before .is-passive2 .ensures, c .before .before .before .before .before .before .is-passive .ensures, c .before .before .before .before .before .before .before .bit2 .ensures, c .before .before .before .before .before .before .before .before .before .is-warning2 .ensures, c .before .before .before .before .before .before .before .before .before .before .is-warning .ensures, c .before .before .before .before .before .before .before .before .before .before .before .bit .ensures, c .before .before .before .before .before .before .before .before .before .before .before .before .is-off .ensures)
 
 pub errors-changed-spec : {M : Type 1} → statement M
 errors-changed-spec =
     tie.close
     (tie.spec
-    boff-requires
+    is-off-requires
     bit-requires
-    ewgf-requires
-    ewgf-requires-2
+    is-warning-requires
+    is-warning-requires-2
     bit-requires-2
-    epvf-requires
-    epvf-requires-2
+    is-passive-requires
+    is-passive-requires-2
     bit-requires-3
-    boff-requires-2
+    is-off-requires-2
     bit-requires-4
     pick-u8-requires
     returns)

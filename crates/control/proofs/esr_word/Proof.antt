@@ -1,16 +1,17 @@
+-- Each flag of the error state is what its function ensures of the counters.
 use Rattle.model.specs.Control.{esrWord}
 use borrow.Author.Needs.{needs}
 use Rattle.control.proofs.esr_word.Statement.{statement}
 use Rattle.control.proofs.esr_word.Tie as tie
 
-ewgf-requires : tie.Need-ewgf-requires
-ewgf-requires c κs = search needs
+is-warning-requires : tie.Need-is-warning-requires
+is-warning-requires c κs = search needs
 
 one-requires : tie.Need-one-requires
 one-requires c κs = search needs
 
-epvf-requires : tie.Need-epvf-requires
-epvf-requires c κs = search needs
+is-passive-requires : tie.Need-is-passive-requires
+is-passive-requires c κs = search needs
 
 one-requires-2 : tie.Need-one-requires-2
 one-requires-2 c κs = search needs
@@ -21,8 +22,8 @@ mul-result c = search needs
 add-result : tie.Need-add-result
 add-result c = search needs
 
-boff-requires : tie.Need-boff-requires
-boff-requires c κs = search needs
+is-off-requires : tie.Need-is-off-requires
+is-off-requires c κs = search needs
 
 one-requires-3 : tie.Need-one-requires-3
 one-requires-3 c κs = search needs
@@ -62,19 +63,19 @@ add-result-5 c = search needs
 
 returns : tie.Need-returns
 unfolding esrWord
-returns c = simp (c .before .before .before .one3 .ensures .0, c .before .before .before .before .boff .ensures, c .before .before .before .before .before .one2 .ensures .0, c .before .before .before .before .before .before .epvf .ensures, c .before .before .before .before .before .before .before .one .ensures .0, c .before .before .before .before .before .before .before .before .ewgf .ensures)
+returns c = simp (c .before .before .before .one3 .ensures .0, c .before .before .before .before .is-off .ensures, c .before .before .before .before .before .one2 .ensures .0, c .before .before .before .before .before .before .is-passive .ensures, c .before .before .before .before .before .before .before .one .ensures .0, c .before .before .before .before .before .before .before .before .is-warning .ensures)
 
 pub esr-word-spec : {M : Type 1} → statement M
 esr-word-spec =
     tie.close
     (tie.spec
-    ewgf-requires
+    is-warning-requires
     one-requires
-    epvf-requires
+    is-passive-requires
     one-requires-2
     mul-result
     add-result
-    boff-requires
+    is-off-requires
     one-requires-3
     mul-result-2
     add-result-2

@@ -1,20 +1,17 @@
-use Rattle.model.specs.Control.{idleCounts}
+-- The counting of idles at the bus-off of these counters.
 use borrow.Author.Needs.{needs}
+use Rattle.control.proofs.Counting.{idle-counts-joined}
 use Rattle.control.proofs.idle_counts.Statement.{statement}
 use Rattle.control.proofs.idle_counts.Tie as tie
 
-boff-requires : tie.Need-boff-requires
-boff-requires c κs = search needs
+is-off-requires : tie.Need-is-off-requires
+is-off-requires c κs = search needs
 
-is-normal-requires : tie.Need-is-normal-requires
-is-normal-requires c κs = search needs
-
-abom-requires : tie.Need-abom-requires
-abom-requires c κs = search needs
+counts-requires : tie.Need-counts-requires
+counts-requires c κs = search needs
 
 returns : tie.Need-returns
-unfolding idleCounts
-returns c = simp (c .before .abom .ensures, c .before .before .is-normal .ensures, c .before .before .before .boff .ensures)
+returns c = simp (c .counts .ensures, c .before .is-off .ensures, idle-counts-joined)
 
 pub idle-counts-spec : {M : Type 1} → statement M
-idle-counts-spec = tie.close (tie.spec boff-requires is-normal-requires abom-requires returns)
+idle-counts-spec = tie.close (tie.spec is-off-requires counts-requires returns)
