@@ -7,8 +7,8 @@ ghost use Rattle.model.specs.Step as stepping;
 ghost use Rattle.model.specs.declared.Step.the-variants as steps;
 use model::Acceptance;
 use model::Core;
+use model::Errors;
 use model::Fifo;
-use model::Filters;
 use model::Frame;
 use model::Mailbox;
 use model::MailboxState;
@@ -48,7 +48,12 @@ pub fn receive_error(c: Core, code: u8, by: u8) -> Core
     let e = control::receive_error_counters(c.errors, code, by);
     let mut d = c;
     d.control = control::errors_changed(c.control, c.errors, e, true);
-    d.errors = e;
+    let f = Errors {
+        tec: e.tec,
+        rec: e.rec,
+        lec: e.lec,
+    };
+    d.errors = f;
     d
 }
 
@@ -65,6 +70,7 @@ pub fn start(c: Core) -> Core
     let i = priority::identifiers(t.mailboxes);
     let s = priority::first(control::txfp(k), i, o);
     let mut d = c;
+    d.errors = control::same_errors(c.errors);
     match s {
         Sender::Nobody => d,
         Sender::From(m) => {
@@ -76,24 +82,20 @@ pub fn start(c: Core) -> Core
 
 // ---- a frame received
 
-// Field by field: lent whole to a function, it would keep the core in memory.
-fn same_filters(g: Filters) -> Filters
-    ensures { λ r. ⌜ r ≡ g ⌝ }
-{
-    Filters {
-        mode: g.mode,
-        scale: g.scale,
-        assignment: g.assignment,
-        activation: g.activation,
-        finit: g.finit,
-    }
-}
-
 pub fn frame_received(c: Core, banks: &[u32; 28], x: Frame) -> Core
     ensures { λ r. ⌜ r ≡ stepping.applied c (now (banks .entry)) (steps.Receive x) ⌝ }
 {
     let k = c.control;
-    let a = filter::acceptance(same_filters(c.filters), banks, x.identifier);
+    let g = c.filters;
+    let v = filter::winner(
+        g.mode,
+        g.scale,
+        g.assignment,
+        g.activation,
+        banks,
+        x.identifier,
+    );
+    let a = filter::accepted_by(v);
     let y = receive::stored_frame(x, receive::fmi_of(a), k.timer);
     let locked = control::rflm(k);
     let mut d = c;
@@ -114,7 +116,15 @@ fn looped_back(c: Core, banks: &[u32; 28], m: Mailbox, r: u8) -> Acceptance
     if (r == 0) & control::lbkm(k) & !g.finit {
         let b = c.transmit.mailboxes;
         let x = receive::sent_frame(mailboxes::at(b, m));
-        return filter::acceptance(same_filters(g), banks, x.identifier);
+        let v = filter::winner(
+            g.mode,
+            g.scale,
+            g.assignment,
+            g.activation,
+            banks,
+            x.identifier,
+        );
+        return filter::accepted_by(v);
     }
     Acceptance::Rejected
 }
@@ -145,7 +155,12 @@ pub fn outcome(c: Core, banks: &[u32; 28], result: u8) -> Core
             let locked = control::rflm(k);
             let e = control::outcome_errors(c.errors, result);
             d.control = control::errors_changed(k, c.errors, e, (result != 0) & (result != 7));
-            d.errors = e;
+            let f = Errors {
+                tec: e.tec,
+                rec: e.rec,
+                lec: e.lec,
+            };
+            d.errors = f;
             d.transmit = mailboxes::wire::ended(t, m, result, control::nart(k));
             d.fifo0 = receive::received(Fifo::F0, a, y, locked, c.fifo0);
             d.fifo1 = receive::received(Fifo::F1, a, y, locked, c.fifo1);

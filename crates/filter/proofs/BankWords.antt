@@ -6,7 +6,7 @@ use native.Mathlib.Omega.{arith}
 use lib.Dec.{eqb}
 use lib.Bits.{bitAnd}
 use Rattle.model.specs.Base.{bit}
-use Rattle.model.specs.Banks.{classBy, classOf, rank, own}
+use Rattle.model.specs.Banks.{isActive, classBy, classOf, rank, belongs, own}
 use Rattle.model.specs.Search.{searched}
 use Rattle.model.specs.declared.Filters.{Filters}
 use Rattle.model.specs.declared.Bank.{Bank}
@@ -72,9 +72,14 @@ module _ (g : Filters) (b : Bank) (h : b .0 < 32) (hs : g .scale < 2 ^ 32) (hm :
 
 -- ---- the banks that a search looks at
 
+of-three : (a o x : Bool) → ((a && x) && o) ≡ (a && (o && x))
+of-three false o x = refl
+of-three true o x = for-flags (λ (o x : Bool). (x && o) ≡ (o && x)) refl refl refl refl o x
+
 -- x is the word of the banks of the class
 pub searched-bit : (g : Filters) (k : FilterClass) (f : Fifo) (x : ℕ) (b : Bank) → b .0 < 32 → g .assignment < 2 ^ 32
-    → bit (b .0) x ≡ eqb (rank (classOf g b)) (rank k) → bit (b .0) (bitAnd (g .activation) (bitAnd (own f g) x)) ≡ searched g k f b
+    → bit (b .0) x ≡ eqb (rank (classOf g b)) (rank k) → bit (b .0) (bitAnd (bitAnd (g .activation) x) (own f g)) ≡ searched g k f b
 unfolding searched
 searched-bit g k f x b h ha e =
-    rw (and-bit (b .0) (g .activation) (bitAnd (own f g) x), and-bit (b .0) (own f g) x, own-digit f g b h ha, e)
+    rw (and-bit (b .0) (bitAnd (g .activation) x) (own f g), and-bit (b .0) (g .activation) x, own-digit f g b h ha, e)
+    (of-three (isActive g b) (belongs f g b) (eqb (rank (classOf g b)) (rank k)))

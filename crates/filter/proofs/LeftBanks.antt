@@ -7,12 +7,12 @@ use Prim.Native.Nat.{ℕ, zero, suc, _+_, _-_, _*_, _/_, _%_, _^_, _≤_, _<_}
 use native.Mathlib.Nat.{div-eq-of-lt, div-one, one-mul, pow-suc}
 use native.Mathlib.Omega.{arith}
 use lib.Dec.{eqb}
-use lib.Bits.{bitAnd, and-le-l}
-use lib.Count.{trailingZeros, under}
-use lib.Pow.{pow-lt, pow-add, pow-pos, shl-shr}
-use Rattle.model.specs.Base.{pick, bit}
-use Rattle.model.specs.Banks.{bank, width}
-use Rattle.model.specs.Search.{first, searched, tried, hitAt, hitIn}
+use lib.Bits.{bitAnd, and-le-l, and-zero-l}
+use lib.Count.{trailingZeros, under, trailing-of-zero}
+use lib.Pow.{pow-lt, pow-add, shl-shr}
+use Rattle.model.specs.Base.{bit}
+use Rattle.model.specs.Banks.{bank, classOf, rank, width, own}
+use Rattle.model.specs.Search.{first, searched, tried, hitIn, firstHit}
 use Rattle.model.specs.declared.Filters.{Filters}
 use Rattle.model.specs.declared.Bank.{Bank}
 use Rattle.model.specs.declared.Fifo.{Fifo}
@@ -21,7 +21,7 @@ use Rattle.model.specs.declared.Hit.{Hit}
 use Rattle.model.specs.declared.Hit.the-variants.{Nothing}
 use Rattle.model.proofs.Digits.{digit-of-half, one-shifted}
 use Rattle.model.proofs.FirstHit.{lower}
-use Rattle.filter.proofs.BankWords.{and-bit, not-bit}
+use Rattle.filter.proofs.BankWords.{and-bit, not-bit, searched-bit}
 
 -- ---- the lowest digit that is 1
 
@@ -147,3 +147,11 @@ module _ (n : ℕ) (g : Filters) (v : List ℕ) (w : ℕ) (k : FilterClass) (f :
         gone j l b (inl a) c = s .passed j l (sym (without-other x i h j l (power-above i j a)) ∙ b)
         gone j l b (inr a) (inl c) = s .passed j l (sym (without-other x i h j l (power-below i j c)) ∙ b)
         gone j l b (inr a) (inr c) = let same : j ≡ i = omega arith in rw same e
+
+  -- where no active bank is of the class there is no hit; x is the word of the banks of the class
+  pub none-of-class : (x : ℕ) → ((b : Bank) → b .0 < 32 → bit (b .0) x ≡ eqb (rank (classOf g b)) (rank k)) → g .assignment < 2 ^ 32
+      → bitAnd (g .activation) x ≡ 0 → n ≤ 32 → firstHit n g v w k f ≡ Nothing
+  unfolding firstHit
+  none-of-class x e ha z l =
+      let none : (b : Bank) → b .0 < 32 → bit (b .0) 0 ≡ searched g k f b = λ b h. rw (z, and-zero-l (own f g)) at (searched-bit g k f x b h ha (e b h)) in
+      none-before 0 (all-left 0 none) n (rw (trailing-of-zero 32) l) l

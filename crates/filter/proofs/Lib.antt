@@ -1,2 +1,4 @@
 pub mod BankWords
 pub mod LeftBanks
+pub mod SideBySide
+pub mod Winners

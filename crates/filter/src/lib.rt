@@ -8,6 +8,7 @@ ghost use Rattle.model.specs.Base as base;
 ghost use Rattle.model.specs.Banks as banks;
 ghost use Rattle.model.specs.Banks.{firstWord, secondWord, shortWord};
 ghost use Rattle.model.specs.Search as search;
+ghost use Rattle.filter.specs.Places as places;
 use bits::pick_u32;
 use model::Acceptance;
 use model::Bank;
@@ -15,7 +16,6 @@ use model::Fifo;
 use model::FilterClass;
 use model::FilterNumber;
 use model::Filters;
-use model::Hit;
 
 // ---- the words of a bank
 
@@ -104,29 +104,20 @@ fn own(f: Fifo, g: Filters) -> u32
     }
 }
 
-// How many of the i lowest bits are 1, and so how many of the i lowest banks.
-fn ones_below(i: u32, w: u32) -> u32
-    requires { ⌜ i < 32 ⌝ }
-    ensures { λ r. ⌜ (r ≡ banks.onesBelow i w) × (r ≤ 32) ⌝ }
-{
-    u32::count_ones(w & ((1 << i) - 1))
-}
-
 // Each lower bank of the FIFO, active or not, takes one number, one more if it is a list, and as many again
-// if it has 16 bits.
-fn first_number_of(n: u32, g: Filters, f: Fifo, b: Bank) -> FilterNumber
-    requires { ⌜ n ≤ 28 ⌝ }
-    ensures { λ r. ⌜ (r ≡ banks.firstNumber n g f b) × (r .0 ≤ 128) ⌝ }
+// if it has 16 bits: the four words of such banks side by side, and one count of their ones.
+fn first_number_of(g: Filters, f: Fifo, b: Bank) -> FilterNumber
+    ensures { λ r. ⌜ (r ≡ banks.firstNumber 14 g f b) × (r .0 ≤ 56) ⌝ }
 {
-    let i = pick_u32(b.0 < n, b.0, n);
-    let mine = own(f, g);
+    let i = pick_u32(b.0 < 14, b.0, 14);
+    let mine = own(f, g) & ((1 << i) - 1);
     let lists = mine & g.mode;
     let halves = !g.scale;
-    let number = ones_below(i, mine)
-        + ones_below(i, lists)
-        + ones_below(i, mine & halves)
-        + ones_below(i, lists & halves);
-    let low = number as u8;
+    let sides = (mine as u64)
+        + (lists as u64) * 0x4000
+        + ((mine & halves) as u64) * 0x10000000
+        + ((lists & halves) as u64) * 0x40000000000;
+    let low = u64::count_ones(sides) as u8;
     FilterNumber(low)
 }
 
@@ -134,19 +125,7 @@ fn first_number_of(n: u32, g: Filters, f: Fifo, b: Bank) -> FilterNumber
 pub fn first_number(g: Filters, f: Fifo, b: Bank) -> FilterNumber
     ensures { λ r. ⌜ r ≡ banks.firstNumber 14 g f b ⌝ }
 {
-    first_number_of(14, g, f, b)
-}
-
-// The number of filter j of a bank.
-fn number(n: u32, g: Filters, f: Fifo, b: Bank, j: u32) -> FilterNumber
-    requires { ⌜ (n ≤ 28) × (j < 4) ⌝ }
-    ensures { λ r. ⌜ r ≡ banks.numberOf n g f b j ⌝ }
-{
-    let first = first_number_of(n, g, f, b);
-    let wide = first.0 as u32;
-    let number = wide + j;
-    let low = number as u8;
-    FilterNumber(low)
+    first_number_of(g, f, b)
 }
 
 // ---- the search of one class in one FIFO
@@ -163,36 +142,21 @@ fn of_class(g: Filters, k: FilterClass) -> u32
     }
 }
 
-// The word with a 1 for each bank that is searched.
-fn searched(g: Filters, k: FilterClass, f: Fifo) -> u32
-    ensures { λ r. ⌜ ((b : Bank) → b .0 < 32 → base.bit (b .0) r ≡ search.searched g k f b) ⌝ }
-{
-    g.activation & (own(f, g) & of_class(g, k))
-}
+// A place in the search: four times the bank's number and the filter's place in the bank; 128 stands for none.
+struct Place(u32);
 
 // The matching filter with the lowest number; `part` is the word of the banks that are searched, often none. The lowest
 // bank that is left comes next.
-fn first_hit(
-    n: u32,
-    g: Filters,
-    banks: &[u32; 28],
-    w: u32,
-    short: u32,
-    k: FilterClass,
-    f: Fifo,
-    part: u32,
-) -> Hit
-    requires { ⌜ n ≤ 14 ⌝ }
+fn first_place(banks: &[u32; 28], w: u32, short: u32, k: FilterClass, part: u32) -> Place
     requires { ⌜ short ≡ shortWord w ⌝ }
-    requires { ⌜ ((b : Bank) → b .0 < 32 → base.bit (b .0) part ≡ search.searched g k f b) ⌝ }
-    ensures { λ r. ⌜ r ≡ search.firstHit n g (now (banks .entry)) w k f ⌝ }
+    ensures { λ r. ⌜ (r .0 ≤ 128) × ((g : Filters) (f : Fifo) → ((b : Bank) → b .0 < 32 → base.bit (b .0) part ≡ search.searched g k f b) → places.hitOf g f r ≡ search.firstHit 14 g (now (banks .entry)) w k f) ⌝ }
 {
     let m = width(k);
     let mut left = part;
     'search: loop {
         let i = u32::trailing_zeros(left);
-        if n <= i {
-            break Hit::Nothing;
+        if 14 <= i {
+            break Place(128);
         }
         let bank = Bank(i);
         let a = first_word(banks, bank);
@@ -200,7 +164,7 @@ fn first_hit(
         let mut j: u32 = 0;
         while j < m {
             if takes(k, a, b, j, w, short) {
-                break 'search Hit::Filter(number(n, g, f, bank, j));
+                break 'search Place(4 * i + j);
             }
             j += 1;
         }
@@ -210,62 +174,110 @@ fn first_hit(
 
 // ---- the winner
 
-// The lower filter number, FIFO 0 where they are equal.
-fn better(a: Hit, b: Hit) -> Acceptance
-    ensures { λ r. ⌜ r ≡ search.better a b ⌝ }
+// The first matches of a class in FIFO 0 and in FIFO 1.
+struct Places {
+    f0: Place,
+    f1: Place,
+}
+
+fn places_of(g: Filters, banks: &[u32; 28], w: u32, short: u32, k: FilterClass) -> Places
+    requires { ⌜ short ≡ shortWord w ⌝ }
+    ensures { λ r. ⌜ places.First g (now (banks .entry)) w k r ⌝ }
 {
-    match a {
-        Hit::Filter(x) => match b {
-            Hit::Filter(y) => {
-                if y.0 < x.0 {
-                    return Acceptance::Into(Fifo::F1, y);
-                }
-                Acceptance::Into(Fifo::F0, x)
-            }
-            Hit::Nothing => Acceptance::Into(Fifo::F0, x),
-        },
-        Hit::Nothing => match b {
-            Hit::Filter(y) => Acceptance::Into(Fifo::F1, y),
-            Hit::Nothing => Acceptance::Rejected,
-        },
+    let part = g.activation & of_class(g, k);
+    if part == 0 {
+        return Places {
+            f0: Place(128),
+            f1: Place(128),
+        };
+    }
+    Places {
+        f0: first_place(banks, w, short, k, part & !g.assignment),
+        f1: first_place(banks, w, short, k, part & g.assignment),
     }
 }
 
-// One class in both FIFOs.
-fn best_of(n: u32, g: Filters, banks: &[u32; 28], w: u32, short: u32, k: FilterClass) -> Acceptance
-    requires { ⌜ n ≤ 14 ⌝ }
-    requires { ⌜ short ≡ shortWord w ⌝ }
-    ensures { λ r. ⌜ r ≡ search.better (search.firstHit n g (now (banks .entry)) w k Fifo.F0) (search.firstHit n g (now (banks .entry)) w k Fifo.F1) ⌝ }
+fn any_place(p: Places) -> bool
+    ensures { λ r. ⌜ r ≡ places.anyPlace p ⌝ }
 {
-    let part0 = searched(g, k, Fifo::F0);
-    let part1 = searched(g, k, Fifo::F1);
-    better(
-        first_hit(n, g, banks, w, short, k, Fifo::F0, part0),
-        first_hit(n, g, banks, w, short, k, Fifo::F1, part1),
-    )
+    (p.f0.0 < 128) | (p.f1.0 < 128)
 }
 
 // The first class that has a match wins, 32-bit before 16, list before mask.
-fn acceptance_of(n: u32, g: Filters, banks: &[u32; 28], w: u32) -> Acceptance
-    requires { ⌜ n ≤ 14 ⌝ }
-    ensures { λ r. ⌜ r ≡ search.acceptance n g (now (banks .entry)) w ⌝ }
+fn best_places(g: Filters, banks: &[u32; 28], w: u32) -> Places
+    ensures { λ r. ⌜ places.Best g (now (banks .entry)) w r ⌝ }
 {
     let short = short_word(w);
-    if let Acceptance::Into(f, x) = best_of(n, g, banks, w, short, FilterClass::List32) {
-        return Acceptance::Into(f, x);
+    let a = places_of(g, banks, w, short, FilterClass::List32);
+    if any_place(a) {
+        return a;
     }
-    if let Acceptance::Into(f, x) = best_of(n, g, banks, w, short, FilterClass::Mask32) {
-        return Acceptance::Into(f, x);
+    let b = places_of(g, banks, w, short, FilterClass::Mask32);
+    if any_place(b) {
+        return b;
     }
-    if let Acceptance::Into(f, x) = best_of(n, g, banks, w, short, FilterClass::List16) {
-        return Acceptance::Into(f, x);
+    let c = places_of(g, banks, w, short, FilterClass::List16);
+    if any_place(c) {
+        return c;
     }
-    best_of(n, g, banks, w, short, FilterClass::Mask16)
+    places_of(g, banks, w, short, FilterClass::Mask16)
+}
+
+// The number of the filter at a place, 255 for none.
+fn number_at(g: Filters, f: Fifo, p: Place) -> u32
+    ensures { λ r. ⌜ r ≡ places.numberAt g f p ⌝ }
+{
+    if 128 <= p.0 {
+        return 255;
+    }
+    let first = first_number_of(g, f, Bank(p.0 / 4));
+    first.0 as u32 + p.0 % 4
+}
+
+// Twice the filter's number, and one more in FIFO 1, so that the lower filter number wins, and FIFO 0 where they are equal;
+// 510 where no filter matches.
+pub struct WinningFilter(pub u32);
+
+// Numbers, and not the filters' struct: this function stays a call, and what it is lent stays in memory.
+pub fn winner(
+    mode: u32,
+    scale: u32,
+    assignment: u32,
+    activation: u32,
+    banks: &[u32; 28],
+    w: u32,
+) -> WinningFilter
+    ensures { λ r. ⌜ r ≡ places.winnerOf (search.acceptance 14 (places.filtersOf mode scale assignment activation) (now (banks .entry)) w) ⌝ }
+{
+    let g = Filters {
+        mode: mode,
+        scale: scale,
+        assignment: assignment,
+        activation: activation,
+        finit: false,
+    };
+    let p = best_places(g, banks, w);
+    let n0 = 2 * number_at(g, Fifo::F0, p.f0);
+    let n1 = 2 * number_at(g, Fifo::F1, p.f1) + 1;
+    WinningFilter(pick_u32(n0 < n1, n0, n1))
+}
+
+pub fn accepted_by(x: WinningFilter) -> Acceptance
+    ensures { λ r. ⌜ r ≡ places.acceptedBy x ⌝ }
+{
+    if 510 <= x.0 {
+        return Acceptance::Rejected;
+    }
+    let low = (x.0 / 2) as u8;
+    if x.0 % 2 == 0 {
+        return Acceptance::Into(Fifo::F0, FilterNumber(low));
+    }
+    Acceptance::Into(Fifo::F1, FilterNumber(low))
 }
 
 // The FIFO that a frame goes to, and the filter that it passes.
 pub fn acceptance(g: Filters, banks: &[u32; 28], w: u32) -> Acceptance
     ensures { λ r. ⌜ r ≡ search.acceptance 14 g (now (banks .entry)) w ⌝ }
 {
-    acceptance_of(14, g, banks, w)
+    accepted_by(winner(g.mode, g.scale, g.assignment, g.activation, banks, w))
 }

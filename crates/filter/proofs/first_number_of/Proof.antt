@@ -1,12 +1,20 @@
--- The four counts of ones are the sum over the lower banks: `first-number-from-counts`.
-use mathlib.Core.Path.{_≡_, sym, ap}
-use Prim.Native.Nat.{_^_, _<_}
+-- The four words fit side by side, and the ones of all four are the sum over the lower banks: `first-number-from-counts`.
+use mathlib.Core.Path.{sym, ap, _∙_}
+use Prim.Native.Nat.{_-_, _^_, _≤_, _<_}
 use native.Mathlib.Omega.{arith}
-use Rattle.model.specs.Banks.{filterNumber}
-use Rattle.model.proofs.Numbering.{banks-below-le, first-number-from-counts}
+use lib.Count.{ones-le}
+use lib.Pow.{pow-pos}
 use borrow.Author.Needs.{needs}
+use Rattle.model.specs.Banks.{filterNumber}
+use Rattle.model.proofs.Digits.{one-shifted}
+use Rattle.model.proofs.Numbering.{banks-below-le, first-number-from-counts}
+use Rattle.filter.proofs.SideBySide.{lowBanks, sides, sides-small, sides-counts}
 use Rattle.filter.proofs.first_number_of.Statement.{statement}
 use Rattle.filter.proofs.first_number_of.Tie as tie
+use Rattle.filter.proofs.first_number_of.Reads as reads
+use Rattle.filter.proofs.first_number_of.Lts as lts
+use Rattle.bits.proofs.pick_u32.Reads as pick-u32-reads
+use Rattle.filter.proofs.own.Reads as own-reads
 
 pick-u32-requires : tie.Need-pick-u32-requires
 pick-u32-requires c κs = search needs
@@ -14,48 +22,67 @@ pick-u32-requires c κs = search needs
 own-requires : tie.Need-own-requires
 own-requires c κs = search needs
 
-ones-below-requires : tie.Need-ones-below-requires
-ones-below-requires c κs = omega (arith, c .before .before .before .pick-u32 .ensures, banks-below-le (c .before .before .before .before .before .args .n) (c .before .before .before .before .before .args .b))
+shl-mine : tie.Need-shl-mine
+shl-mine c = omega (arith, c .before .pick-u32 .ensures, banks-below-le 14 (c .before .before .before .args .b))
 
-ones-below-requires-2 : tie.Need-ones-below-requires-2
-ones-below-requires-2 c κs = omega (arith, c .before .before .before .before .pick-u32 .ensures, banks-below-le (c .before .before .before .before .before .before .args .n) (c .before .before .before .before .before .before .args .b))
+sub-mine : tie.Need-sub-mine
+sub-mine c = rw (one-shifted (c .before .pick-u32 .result) (shl-mine c)) (pow-pos (c .before .pick-u32 .result))
 
-add-number : tie.Need-add-number
-add-number c = search needs
+module _ (c : lts.After-struct-known3 (pick-u32-reads.Asked, pick-u32-reads.Learnt, own-reads.Asked, own-reads.Learnt) reads.Pre reads.Post) where
+  below : c .before .before .before .pick-u32 .result ≤ 14
+  below = omega (arith, c .before .before .before .pick-u32 .ensures, banks-below-le 14 (c .before .before .before .before .before .args .b))
 
-ones-below-requires-3 : tie.Need-ones-below-requires-3
-ones-below-requires-3 c κs = omega (arith, c .before .before .before .before .before .pick-u32 .ensures, banks-below-le (c .before .before .before .before .before .before .before .args .n) (c .before .before .before .before .before .before .before .args .b))
+  -- the whole word fits, and so each of its parts
+  small : sides (lowBanks (c .before .before .before .pick-u32 .result) (c .before .before .own .result))
+      (c .before .before .before .before .before .args .g .mode) ((2 ^ 32 - 1) - c .before .before .before .before .before .args .g .scale) < 2 ^ 56
+  small =
+      sides-small (c .before .before .before .pick-u32 .result) (c .before .before .own .result) (c .before .before .before .before .before .args .g .mode)
+      ((2 ^ 32 - 1) - c .before .before .before .before .before .args .g .scale) below
 
-add-number-2 : tie.Need-add-number-2
-add-number-2 c = search needs
+cast-sides : tie.Need-cast-sides
+cast-sides c = omega (arith, small c)
 
-ones-below-requires-4 : tie.Need-ones-below-requires-4
-ones-below-requires-4 c κs = omega (arith, c .before .before .before .before .before .before .pick-u32 .ensures, banks-below-le (c .before .before .before .before .before .before .before .before .args .n) (c .before .before .before .before .before .before .before .before .args .b))
+cast-sides-2 : tie.Need-cast-sides-2
+cast-sides-2 c = omega (arith, small c)
 
-add-number-3 : tie.Need-add-number-3
-add-number-3 c = search needs
+mul-sides : tie.Need-mul-sides
+mul-sides c = omega (arith, small c)
+
+add-sides : tie.Need-add-sides
+add-sides c = omega (arith, small c)
+
+cast-sides-3 : tie.Need-cast-sides-3
+cast-sides-3 c = omega (arith, small c)
+
+mul-sides-2 : tie.Need-mul-sides-2
+mul-sides-2 c = omega (arith, small c)
+
+add-sides-2 : tie.Need-add-sides-2
+add-sides-2 c = omega (arith, small c)
+
+cast-sides-4 : tie.Need-cast-sides-4
+cast-sides-4 c = omega (arith, small c)
+
+mul-sides-3 : tie.Need-mul-sides-3
+mul-sides-3 c = omega (arith, small c)
+
+add-sides-3 : tie.Need-add-sides-3
+add-sides-3 c = omega (arith, small c)
 
 cast-low : tie.Need-cast-low
-cast-low c = search needs
+cast-low c = omega (arith, ones-le 56 _ (small c))
 
 returns : tie.Need-returns
 returns c =
-    let at = c .before .before .before .before .before .before .before .before .before in
+    let at = c .before .before .before .before .before in
     let g = at .args .g in
-    let ha : g .assignment < 2 ^ 32 = omega (arith, c .before .before .before .before .before .struct-known2 .given) in
-    let hs : g .scale < 2 ^ 32 = omega (arith, c .before .before .before .before .before .struct-known2 .given) in
-    let counts = first-number-from-counts g (at .args .f) ha hs (at .args .n) (at .args .b) (omega arith) in (
+    let ha : g .assignment < 2 ^ 32 = omega (arith, c .struct-known3 .given) in
+    let hs : g .scale < 2 ^ 32 = omega (arith, c .struct-known3 .given) in
+    let counts = first-number-from-counts g (at .args .f) ha hs 14 (at .args .b) (omega arith) in (
       ap filterNumber
-          (rw (
-            c .ones-below4 .ensures .0,
-            c .before .ones-below3 .ensures .0,
-            c .before .before .ones-below2 .ensures .0,
-            c .before .before .before .ones-below .ensures .0,
-            c .before .before .before .before .before .before .own .ensures,
-            c .before .before .before .before .before .before .before .pick-u32 .ensures,
-          )
-          (sym counts)),
-      omega arith,
+          (sides-counts (c .before .before .before .pick-u32 .result) (c .before .before .own .result) (g .mode) ((2 ^ 32 - 1) - g .scale) (below c)
+          ∙ rw (c .before .before .own .ensures, c .before .before .before .pick-u32 .ensures) (sym counts)),
+      ones-le 56 _ (small c),
     )
 
 pub first-number-of-spec : {M : Type 1} → statement M
@@ -64,12 +91,17 @@ first-number-of-spec =
     (tie.spec
     pick-u32-requires
     own-requires
-    ones-below-requires
-    ones-below-requires-2
-    add-number
-    ones-below-requires-3
-    add-number-2
-    ones-below-requires-4
-    add-number-3
+    shl-mine
+    sub-mine
+    cast-sides
+    cast-sides-2
+    mul-sides
+    add-sides
+    cast-sides-3
+    mul-sides-2
+    add-sides-2
+    cast-sides-4
+    mul-sides-3
+    add-sides-3
     cast-low
     returns)
