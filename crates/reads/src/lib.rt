@@ -1,143 +1,130 @@
 // What a step shows of a controller: the word of a register or of a start, and the interrupt lines.
 ghost use mathlib.Core.Path.{_≡_};
-ghost use Prim.Native.Nat.{_<_};
-ghost use lib.Dec.{eqb};
-ghost use Rattle.model.specs.Base as base;
-ghost use Rattle.model.specs.Reception as reception;
-ghost use Rattle.model.specs.Registers as map;
+ghost use mathlib.Core.List.{[]};
 ghost use Rattle.model.specs.Step as stepping;
-ghost use Rattle.reads.specs.Decoded as decoded;
-use model::Bank;
+ghost use Rattle.model.specs.declared.Step.the-variants as steps;
+ghost use Rattle.reads.specs.Shown as reading;
 use model::Core;
-use model::Fifo;
-use model::FifoState;
-use model::Register;
-use model::Step;
-use model::StoredFrame;
+use model::Mailbox;
 use model::Transmit;
 
-fn fifo_of(f: Fifo, c: Core) -> FifoState
-    ensures { λ r. ⌜ r ≡ map.fifoOf f c ⌝ }
+// ---- a read
+
+// The code and the word of a read.
+pub struct Shown {
+    pub code: u8,
+    pub word: u32,
+}
+
+fn found(word: u32) -> Shown
+    ensures { λ r. ⌜ r ≡ reading.found word ⌝ }
 {
-    let q = c.fifo0;
-    let r = c.fifo1;
-    match f {
-        Fifo::F0 => q,
-        Fifo::F1 => r,
+    Shown {
+        code: 0,
+        word: word,
     }
 }
 
-// The oldest frame of a FIFO, zeros where it is empty.
-fn output_of(f: Fifo, c: Core) -> StoredFrame
-    ensures { λ r. ⌜ r ≡ reception.output (map.fifoOf f c) ⌝ }
+// At an offset of the banks' words or of no register.
+fn bank_read(o: u16, banks: [u32; 28]) -> Shown
+    ensures { λ r. ⌜ r ≡ reading.bankRead o banks ⌝ }
 {
-    receive::output(fifo_of(f, c))
-}
-
-// R1 of a bank for i = 0, R2 for i = 1.
-fn bank_word(banks: &[u32; 28], b: Bank, i: u32) -> u32
-    requires { ⌜ i < 2 ⌝ }
-    ensures { λ r. ⌜ r ≡ map.bankWord (now (banks .entry)) b i ⌝ }
-{
-    let n = b.0;
-    if n < 14 {
-        let j = (2 * n + i) as usize;
-        return banks[j];
+    if (o < 0x240) | (0x2B0 <= o) | !(o % 4 == 0) {
+        return Shown { code: 1, word: 0 };
     }
-    0
+    let v = banks;
+    let j = ((o - 0x240) / 4) as usize;
+    found(v[j])
 }
 
-fn read_word(g: Register, c: Core, banks: &[u32; 28]) -> u32
-    ensures { λ r. ⌜ r ≡ map.readWord g c (now (banks .entry)) ⌝ }
+// By the offset and not by the register, so that it is one jump.
+pub fn read_at(o: u16, c: Core, banks: [u32; 28]) -> Shown
+    ensures { λ r. ⌜ r ≡ reading.readAt o c banks ⌝ }
 {
     let k = c.control;
     let t = c.transmit;
     let f = c.filters;
-    match g {
-        Register::Mcr => k.mcr,
-        Register::Msr => {
+    match o {
+        0x000 => found(k.mcr),
+        0x004 => {
             let q = t.queue;
-            let s = q.transmitting;
-            control::msr_word(k, queue::is_nobody(s))
+            let x = q.transmitting;
+            found(control::msr_word(k, queue::is_nobody(x)))
         }
-        Register::Tsr => priority::tsr::tsr(control::txfp(k), t),
-        Register::Rfr(x) => receive::rfr_word(fifo_of(x, c)),
-        Register::Ier => k.ier,
-        Register::Esr => {
-            let e = c.errors;
-            control::esr_word(e)
+        0x008 => found(priority::tsr::tsr(control::txfp(k), t)),
+        0x00C => found(receive::rfr_word(c.fifo0)),
+        0x010 => found(receive::rfr_word(c.fifo1)),
+        0x014 => found(k.ier),
+        0x018 => found(control::esr_word(c.errors)),
+        0x01C => found(k.btr),
+        0x180 => found(mailboxes::ti_word(t, Mailbox::M0)),
+        0x184 => found(t.mailboxes.m0.tdt),
+        0x188 => found(t.mailboxes.m0.tdl),
+        0x18C => found(t.mailboxes.m0.tdh),
+        0x190 => found(mailboxes::ti_word(t, Mailbox::M1)),
+        0x194 => found(t.mailboxes.m1.tdt),
+        0x198 => found(t.mailboxes.m1.tdl),
+        0x19C => found(t.mailboxes.m1.tdh),
+        0x1A0 => found(mailboxes::ti_word(t, Mailbox::M2)),
+        0x1A4 => found(t.mailboxes.m2.tdt),
+        0x1A8 => found(t.mailboxes.m2.tdl),
+        0x1AC => found(t.mailboxes.m2.tdh),
+        0x1B0 => {
+            let y = receive::output(c.fifo0);
+            found(y.ri)
         }
-        Register::Btr => k.btr,
-        Register::Ti(m) => mailboxes::ti_word(t, m),
-        Register::Tdt(m) => {
-            let b = t.mailboxes;
-            let x = mailboxes::at(b, m);
-            x.tdt
+        0x1B4 => {
+            let y = receive::output(c.fifo0);
+            found(y.rdt)
         }
-        Register::Tdl(m) => {
-            let b = t.mailboxes;
-            let x = mailboxes::at(b, m);
-            x.tdl
+        0x1B8 => {
+            let y = receive::output(c.fifo0);
+            found(y.rdl)
         }
-        Register::Tdh(m) => {
-            let b = t.mailboxes;
-            let x = mailboxes::at(b, m);
-            x.tdh
+        0x1BC => {
+            let y = receive::output(c.fifo0);
+            found(y.rdh)
         }
-        Register::Ri(x) => {
-            let o = output_of(x, c);
-            o.ri
+        0x1C0 => {
+            let y = receive::output(c.fifo1);
+            found(y.ri)
         }
-        Register::Rdt(x) => {
-            let o = output_of(x, c);
-            o.rdt
+        0x1C4 => {
+            let y = receive::output(c.fifo1);
+            found(y.rdt)
         }
-        Register::Rdl(x) => {
-            let o = output_of(x, c);
-            o.rdl
+        0x1C8 => {
+            let y = receive::output(c.fifo1);
+            found(y.rdl)
         }
-        Register::Rdh(x) => {
-            let o = output_of(x, c);
-            o.rdh
+        0x1CC => {
+            let y = receive::output(c.fifo1);
+            found(y.rdh)
         }
-        Register::Fmr => 0x2A1C0E00 + bits::one(f.finit),
-        Register::Fm1r => f.mode,
-        Register::Fs1r => f.scale,
-        Register::Ffa1r => f.assignment,
-        Register::Fa1r => f.activation,
-        Register::R1(b) => bank_word(banks, b, 0),
-        Register::R2(b) => bank_word(banks, b, 1),
-        Register::Absent => 0,
+        0x200 => found(0x2A1C0E00 + bits::one(f.finit)),
+        0x204 => found(f.mode),
+        0x20C => found(f.scale),
+        0x214 => found(f.assignment),
+        0x21C => found(f.activation),
+        _ => bank_read(o, banks),
     }
 }
 
-// The word of a step with this code: 0 but for an accepted read and an accepted start. g is the register that it reads.
-pub fn word_at(c: Core, banks: &[u32; 28], e: Step, g: Register, code: u8) -> u32
-    ensures { λ r. ⌜ r ≡ base.pick (eqb code 0) (decoded.wordAt c (now (banks .entry)) e g) 0 ⌝ }
+// ---- a start
+
+// The number of the mailbox that goes on the wire.
+pub fn start_word(c: Core) -> u32
+    ensures { λ r. ⌜ r ≡ stepping.wordOf c [] steps.Start ⌝ }
 {
-    if code != 0 {
-        return 0;
-    }
-    match e {
-        Step::Reset => 0,
-        Step::Read(_) => read_word(g, c, banks),
-        Step::Write(_, _) => 0,
-        Step::Idle => 0,
-        Step::BitTimes(_) => 0,
-        Step::Activity => 0,
-        Step::Start => {
-            let k = c.control;
-            let b = c.transmit.mailboxes;
-            let q = c.transmit.queue;
-            let o = q.order;
-            let i = priority::identifiers(b);
-            queue::sender_number(priority::first(control::txfp(k), i, o))
-        }
-        Step::Outcome(_) => 0,
-        Step::Receive(_) => 0,
-        Step::ReceiveError(_, _) => 0,
-    }
+    let k = c.control;
+    let b = c.transmit.mailboxes;
+    let q = c.transmit.queue;
+    let o = q.order;
+    let i = priority::identifiers(b);
+    queue::sender_number(priority::first(control::txfp(k), i, o))
 }
+
+// ---- the interrupt lines
 
 fn any_rqcp(t: Transmit) -> bool
     ensures { λ r. ⌜ r ≡ stepping.anyRqcp t ⌝ }
@@ -145,7 +132,8 @@ fn any_rqcp(t: Transmit) -> bool
     t.mailboxes.m0.rqcp | t.mailboxes.m1.rqcp | t.mailboxes.m2.rqcp
 }
 
-// The four interrupt lines.
+// The four interrupt lines: the sources of a line side by side, as their enable bits stand in IER. Where no interrupt is enabled,
+// no line is up.
 pub fn lines_of(c: Core) -> u8
     ensures { λ r. ⌜ r ≡ stepping.linesOf c ⌝ }
 {
@@ -153,9 +141,16 @@ pub fn lines_of(c: Core) -> u8
     let t = c.transmit;
     let p = c.fifo0;
     let q = c.fifo1;
-    let sum = bits::one(bits::bit(0, k.ier) & any_rqcp(t))
-        + bits::one(receive::fifo_line(p, 1, k.ier)) * 2
-        + bits::one(receive::fifo_line(q, 4, k.ier)) * 4
-        + bits::one(control::status_line(k)) * 8;
+    let ier = k.ier;
+    if ier == 0 {
+        return 0;
+    }
+    let f0 = bits::one(!(p.count == 0)) + bits::one(p.full) * 2 + bits::one(p.fovr) * 4;
+    let f1 = bits::one(!(q.count == 0)) + bits::one(q.full) * 2 + bits::one(q.fovr) * 4;
+    let f3 = bits::one(k.erri) + bits::one(k.wkui) * 2 + bits::one(k.slaki) * 4;
+    let sum = (ier & bits::one(any_rqcp(t)))
+        + bits::one(!((ier >> 1) & f0 == 0)) * 2
+        + bits::one(!((ier >> 4) & f1 == 0)) * 4
+        + bits::one(!((ier >> 15) & f3 == 0)) * 8;
     sum as u8
 }

@@ -2,9 +2,11 @@
 ghost use mathlib.Core.Path.{_≡_};
 ghost use Prim.Native.Nat.{_<_};
 ghost use Rattle.model.specs.Registers as map;
+ghost use Rattle.writes.specs.Places as places;
 use model::Bank;
 use model::Core;
 use model::Fifo;
+use model::Filters;
 use model::Register;
 
 // Each arm stores the parts that it changes.
@@ -76,33 +78,63 @@ pub fn written(x: Register, c: Core, w: u32) -> Core
         Register::Rdl(_) => d,
         Register::Rdh(_) => d,
         Register::Fmr => {
-            let mut g = c.filters;
-            g.finit = bits::bit(0, w);
-            d.filters = g;
+            let g = c.filters;
+            let h = Filters {
+                mode: g.mode,
+                scale: g.scale,
+                assignment: g.assignment,
+                activation: g.activation,
+                finit: bits::bit(0, w),
+            };
+            d.filters = h;
             d
         }
         Register::Fm1r => {
-            let mut g = c.filters;
-            g.mode = w % 16384;
-            d.filters = g;
+            let g = c.filters;
+            let h = Filters {
+                mode: w % 16384,
+                scale: g.scale,
+                assignment: g.assignment,
+                activation: g.activation,
+                finit: g.finit,
+            };
+            d.filters = h;
             d
         }
         Register::Fs1r => {
-            let mut g = c.filters;
-            g.scale = w % 16384;
-            d.filters = g;
+            let g = c.filters;
+            let h = Filters {
+                mode: g.mode,
+                scale: w % 16384,
+                assignment: g.assignment,
+                activation: g.activation,
+                finit: g.finit,
+            };
+            d.filters = h;
             d
         }
         Register::Ffa1r => {
-            let mut g = c.filters;
-            g.assignment = w % 16384;
-            d.filters = g;
+            let g = c.filters;
+            let h = Filters {
+                mode: g.mode,
+                scale: g.scale,
+                assignment: w % 16384,
+                activation: g.activation,
+                finit: g.finit,
+            };
+            d.filters = h;
             d
         }
         Register::Fa1r => {
-            let mut g = c.filters;
-            g.activation = w % 16384;
-            d.filters = g;
+            let g = c.filters;
+            let h = Filters {
+                mode: g.mode,
+                scale: g.scale,
+                assignment: g.assignment,
+                activation: w % 16384,
+                finit: g.finit,
+            };
+            d.filters = h;
             d
         }
         Register::R1(_) => d,
@@ -111,48 +143,39 @@ pub fn written(x: Register, c: Core, w: u32) -> Core
     }
 }
 
-// R1 (i = 0) or R2 (i = 1) of a bank written.
-fn with_bank_word(banks: [u32; 28], b: Bank, i: u32, w: u32) -> [u32; 28]
-    requires { ⌜ i < 2 ⌝ }
-    ensures { λ r. ⌜ r ≡ map.withBankWord banks b i w ⌝ }
+// ---- the words of the banks
+
+// The place of the word that a write to a register changes; 28 is none of them.
+pub fn bank_place(x: Register) -> u32
+    ensures { λ r. ⌜ r ≡ places.placeOf x ⌝ }
 {
-    let mut v = banks;
-    let n = b.0;
-    if n < 14 {
-        let j = (2 * n + i) as usize;
-        v[j] = w;
-        v
-    } else {
-        v
+    match x {
+        Register::R1(b) => place_in(b, 0),
+        Register::R2(b) => place_in(b, 1),
+        _ => 28,
     }
 }
 
-pub fn banks_written(x: Register, banks: [u32; 28], w: u32) -> [u32; 28]
-    ensures { λ r. ⌜ r ≡ map.banksWritten x banks w ⌝ }
+fn place_in(b: Bank, i: u32) -> u32
+    requires { ⌜ i < 2 ⌝ }
+    ensures { λ r. ⌜ r ≡ places.placeIn b i ⌝ }
 {
-    match x {
-        Register::Mcr => banks,
-        Register::Msr => banks,
-        Register::Tsr => banks,
-        Register::Rfr(_) => banks,
-        Register::Ier => banks,
-        Register::Esr => banks,
-        Register::Btr => banks,
-        Register::Ti(_) => banks,
-        Register::Tdt(_) => banks,
-        Register::Tdl(_) => banks,
-        Register::Tdh(_) => banks,
-        Register::Ri(_) => banks,
-        Register::Rdt(_) => banks,
-        Register::Rdl(_) => banks,
-        Register::Rdh(_) => banks,
-        Register::Fmr => banks,
-        Register::Fm1r => banks,
-        Register::Fs1r => banks,
-        Register::Ffa1r => banks,
-        Register::Fa1r => banks,
-        Register::R1(b) => with_bank_word(banks, b, 0, w),
-        Register::R2(b) => with_bank_word(banks, b, 1, w),
-        Register::Absent => banks,
+    if b.0 < 14 {
+        return 2 * b.0 + i;
+    }
+    28
+}
+
+// The words with the one at a place written; at 28 none is, and at 29 all become 0.
+pub fn banks_after(banks: [u32; 28], place: u32, w: u32) -> [u32; 28]
+    ensures { λ r. ⌜ r ≡ places.changed banks place w ⌝ }
+{
+    let mut v = banks;
+    if place < 28 {
+        let j = place as usize;
+        v[j] = w;
+        v
+    } else {
+        if place == 28 { v } else { [0; 28] }
     }
 }

@@ -1,0 +1,2 @@
+pub mod OtherOffsets
+pub mod LineMasks
