@@ -8,5 +8,6 @@ pub mod RecordWalk
 pub mod Rounds
 pub mod Single
 pub mod StepWalk
+pub mod Stores
 pub mod Told
 pub mod Turns

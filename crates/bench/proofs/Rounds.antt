@@ -43,7 +43,7 @@ reply-bytes r = go (r .ended || eqb (r .code) 9)
     go false = refl
 
 -- a record that does not stop the replay has a reply
-goes-on : (e : Bool) (k : ℕ) → stops e k ≡ false → (e || eqb k 9) ≡ false
+pub goes-on : (e : Bool) (k : ℕ) → stops e k ≡ false → (e || eqb k 9) ≡ false
 goes-on true k h = h
 goes-on false k h = ne-eqb k 9 (λ q. true≢false (rw q at h))
 

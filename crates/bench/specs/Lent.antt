@@ -11,10 +11,14 @@ use Rattle.model.specs.Script.{recordAt, replyOf, overwritten, stops}
 use Rattle.model.specs.Step.{step}
 use Rattle.model.specs.declared.Answer.{Answer}
 use Rattle.model.specs.declared.Controller.{Controller}
+use Rattle.model.specs.declared.Core.{Core}
 use Rattle.model.specs.declared.Replay.{Replay}
 use Rattle.model.specs.declared.Replayed.{Replayed}
 use Rattle.model.specs.declared.Step.{Step}
 use Rattle.model.specs.declared.Stepped.{Stepped}
+use Rattle.writes.specs.Places.{changed}
+use Rattle.script.specs.OneWay.{coreReplayed}
+use Rattle.script.specs.declared.CoreReplayed.{CoreReplayed}
 use Rattle.bench.specs.declared.Progress.{Progress}
 use Rattle.bench.specs.declared.Recorded.{Recorded}
 
@@ -24,6 +28,13 @@ answerOf a = record { code = a .code; lines = a .lines; word = a .word }
 -- a step taken on a lent controller z: the answer, and the controller afterwards
 abbrev pub Taken : Controller → Step → Answer → Controller → Type 0
 Taken z e r z′ = (r ≡ answerOf (step z e)) × (z′ ≡ step z e .controller)
+
+-- the next controller with this core, the banks' words as they are, or with the one at a place written
+abbrev pub withCore : Controller → Core → Controller
+withCore z d = record { core = d; banks = z .banks }
+
+abbrev pub withBankWord : Controller → Core → ℕ → ℕ → Controller
+withBankWord z d p w = record { core = d; banks = changed (z .banks) p w }
 
 abbrev pub recordedOf : Replayed → Recorded
 recordedOf r = record { place = r .place; ended = r .ended; code = r .code; lines = r .lines; word = r .word }
@@ -35,6 +46,10 @@ placed w r space = take w space ++ overwritten r (drop w space)
 -- what the record at place p gives, with the reply space from place w on
 abbrev pub recordIn : Controller → List ℕ → ℕ → List ℕ → ℕ → Replayed
 recordIn z s p space w = recordAt z s p (length space - w)
+
+-- the same but for the banks' words
+abbrev pub coreRecordIn : Controller → List ℕ → ℕ → List ℕ → ℕ → CoreReplayed
+coreRecordIn z s p space w = coreReplayed z s p (length space - w)
 
 -- a record x taken on a lent controller, its reply from place w on: the answer, and the controller and the reply space afterwards
 abbrev pub RecordTaken : Replayed → ℕ → List ℕ → Recorded → Controller → List ℕ → Type 0

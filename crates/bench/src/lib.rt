@@ -1,25 +1,59 @@
 // The bench layer: one controller is lent and changed in place. Each function copies it whole, calls the by-value
-// function and stores the next controller whole, so that no proof here goes by the controller's fields.
+// function and stores the next controller whole, so that no proof here goes by the fields of its core.
 ghost use mathlib.Core.Path.{_≡_};
 ghost use Prim.Native.Nat.{_+_, _<_, _^_};
 ghost use lib.ListN.{length};
 ghost use Rattle.model.specs.Script as scripts;
 ghost use Rattle.model.specs.declared.Step.the-variants as steps;
+ghost use Rattle.controller.specs.After as after;
+ghost use Rattle.script.specs.OneWay as way;
 ghost use Rattle.bench.specs.Lent as lent;
+use controller::CoreStepped;
 use model::Answer;
 use model::Controller;
+use model::Core;
 use model::Frame;
 use model::Replay;
-use model::Replayed;
 use model::Step;
+use script::CoreReplayed;
+
+// ---- the next controller, stored whole
+
+fn with_core(z: Controller, d: Core) -> Controller
+    ensures { λ r. ⌜ r ≡ lent.withCore z d ⌝ }
+{
+    let v = z.banks;
+    Controller { core: d, banks: v }
+}
+
+fn with_bank_word(z: Controller, d: Core, place: u32, w: u32) -> Controller
+    ensures { λ r. ⌜ r ≡ lent.withBankWord z d place w ⌝ }
+{
+    let b = z.banks;
+    let v = writes::banks_after(b, place, w);
+    Controller { core: d, banks: v }
+}
 
 // ---- one step
 
+fn core_stepped(z: Controller, e: Step) -> CoreStepped
+    ensures { λ r. ⌜ r ≡ after.coreStep (z .core) (z .banks) e ⌝ }
+{
+    let c = z.core;
+    let v = z.banks;
+    controller::core_step(c, v, e)
+}
+
+// The banks' words are stored only where the step writes one.
 pub fn step(c: &mut Controller, e: Step) -> Answer
     ensures { λ r. ⌜ lent.Taken (now (c .entry)) e r (now (c .exit)) ⌝ }
 {
-    let s = controller::step(*c, e);
-    *c = s.controller;
+    let s = core_stepped(*c, e);
+    if s.place == 28 {
+        *c = with_core(*c, s.core);
+    } else {
+        *c = with_bank_word(*c, s.core, s.place, s.value);
+    }
     Answer {
         code: s.code,
         lines: s.lines,
@@ -109,11 +143,11 @@ fn replayed_at(
     place: usize,
     replies: &mut [u8],
     written: usize,
-) -> Replayed
-    ensures { λ r. ⌜ (r ≡ lent.recordIn z (now (script .entry)) place (now (replies .entry)) written) × (now (replies .exit) ≡ lent.placed written (scripts.replyOf r) (now (replies .entry))) ⌝ }
+) -> CoreReplayed
+    ensures { λ r. ⌜ (r ≡ lent.coreRecordIn z (now (script .entry)) place (now (replies .entry)) written) × (now (replies .exit) ≡ lent.placed written (scripts.replyOf (way.whole z r)) (now (replies .entry))) ⌝ }
 {
     let from = bits::least(written, replies.len());
-    script::replayed(z, script, place, &mut replies[from..])
+    script::core_replayed(z, script, place, &mut replies[from..])
 }
 
 // One record: it is read, its step is done on the lent controller, and its reply is written.
@@ -127,7 +161,11 @@ pub fn replay_record(
     ensures { λ r. ⌜ lent.RecordTaken (lent.recordIn (now (c .entry)) (now (script .entry)) place (now (replies .entry)) written) written (now (replies .entry)) r (now (c .exit)) (now (replies .exit)) ⌝ }
 {
     let s = replayed_at(*c, script, place, replies, written);
-    *c = s.controller;
+    if s.bank == 28 {
+        *c = with_core(*c, s.core);
+    } else {
+        *c = with_bank_word(*c, s.core, s.bank, s.value);
+    }
     Recorded {
         place: s.place,
         ended: s.ended,
@@ -171,8 +209,8 @@ fn progressed(p: Progress, r: Recorded) -> Progress
     requires { ⌜ (p .records + 1 < 2 ^ 64) × (p .written + lent.replyBytes (r .ended) (r .code) < 2 ^ 64) ⌝ }
     ensures { λ q. ⌜ q ≡ lent.progressed p r ⌝ }
 {
-    let written = p.written + script::reply_length(r.ended, r.code);
     if script::stops(r.ended, r.code) {
+        let written = p.written + script::reply_length(r.ended, r.code);
         return Progress {
             place: r.place,
             records: p.records,
@@ -185,10 +223,11 @@ fn progressed(p: Progress, r: Recorded) -> Progress
         };
     }
     let records = p.records + 1;
+    let more = p.written + 9;
     Progress {
         place: r.place,
         records: records,
-        written: written,
+        written: more,
         ended: r.ended,
         code: r.code,
         lines: r.lines,

@@ -1,12 +1,13 @@
 -- A record that can't be read or answered goes through `step` too, as a step that every state refuses: so the state has one way through
 -- the code.
 use mathlib.Core.Bool.{Bool, true, false, _||_}
-use mathlib.Core.Path.{_≡_, refl, ap, _∙_}
+use mathlib.Core.Path.{_≡_, refl, ap, sym, _∙_}
 use mathlib.Core.List.{List, []}
 use Prim.Native.Nat.{ℕ}
 use lib.Dec.{eqb, ltb}
+use lib.ListN.{length}
 use Rattle.model.specs.Base.{pick}
-use Rattle.model.specs.Script.{replayed, reply}
+use Rattle.model.specs.Script.{reading, replayed, recordAt, reply}
 use Rattle.model.specs.Step.{step, answered, refusal, coreAfter, banksAfter, linesOf}
 use Rattle.model.specs.declared.Controller.{Controller}
 use Rattle.model.specs.declared.Reading.{Reading}
@@ -15,6 +16,10 @@ use Rattle.model.specs.declared.Replayed.{Replayed}
 use Rattle.model.specs.declared.Stepped.{Stepped}
 use Rattle.model.specs.declared.Step as steps
 use Rattle.model.specs.declared.Step.the-variants.{BitTimes}
+use Rattle.writes.specs.Places.{changed}
+use Rattle.controller.specs.After.{coreStep, whole-step}
+use Rattle.controller.specs.declared.CoreStepped.{CoreStepped}
+use Rattle.script.specs.declared.CoreReplayed.{CoreReplayed}
 
 -- without space for a reply, what was read can't be answered
 unfoldable pub answerable : Reading → ℕ → Reading
@@ -85,3 +90,39 @@ one-way (Found e q) z n p space = go (ltb space 9)
         ≡ after (pick b (Malformed 9) (Found e q)) n p (step z (stepOf (pick b (Malformed 9) (Found e q))))
     go true = rw (refused z)
     go false = refl
+
+-- ---- without the banks' words
+
+abbrev pub afterCore : Reading → ℕ → ℕ → CoreStepped → CoreReplayed
+afterCore x n p a = record {
+  core = a .core;
+  place = placeOf x n p;
+  ended = isEnd x;
+  code = codeOf x (a .code);
+  lines = a .lines;
+  word = a .word;
+  bank = a .place;
+  value = a .value;
+}
+
+-- what the record at place p gives, with so much space for its reply
+unfoldable pub coreReplayed : Controller → List ℕ → ℕ → ℕ → CoreReplayed
+coreReplayed z s p space =
+    afterCore (answerable (reading s p) space) (length s) p (coreStep (z .core) (z .banks) (stepOf (answerable (reading s p) space)))
+
+-- with the banks' words of the controller before
+abbrev pub whole : Controller → CoreReplayed → Replayed
+whole z r = record {
+  controller = record { core = r .core; banks = changed (z .banks) (r .bank) (r .value) };
+  place = r .place;
+  ended = r .ended;
+  code = r .code;
+  lines = r .lines;
+  word = r .word;
+}
+
+pub whole-record : (z : Controller) (s : List ℕ) (p space : ℕ) → whole z (coreReplayed z s p space) ≡ recordAt z s p space
+unfolding coreReplayed recordAt
+whole-record z s p space =
+    ap (after (answerable (reading s p) space) (length s) p) (whole-step z (stepOf (answerable (reading s p) space)))
+    ∙ sym (one-way (reading s p) z (length s) p space)

@@ -9,31 +9,23 @@ ghost use Rattle.model.specs.Base as base;
 ghost use Rattle.model.specs.Script as scripts;
 ghost use Rattle.script.specs.OneWay as way;
 use model::Controller;
+use model::Core;
 use model::Reading;
-use model::Replayed;
 use model::Step;
 
 // ---- one record
 
-// Without space for a reply, what was read can't be answered: code 9.
-fn answerable(x: Reading, space: usize) -> Reading
-    ensures { λ r. ⌜ r ≡ way.answerable x space ⌝ }
+// The record at a place of the script, with so much space for its reply: without it, nothing can be answered (code 9).
+fn readable(script: &[u8], place: usize, space: usize) -> Reading
+    ensures { λ r. ⌜ r ≡ way.answerable (scripts.reading (now (script .entry)) place) space ⌝ }
 {
-    match x {
-        Reading::End => Reading::End,
-        Reading::Malformed(k) => {
-            if space < 9 {
-                return Reading::Malformed(9);
-            }
-            Reading::Malformed(k)
+    if space < 9 {
+        if script.len() <= place {
+            return Reading::End;
         }
-        Reading::Found(e, q) => {
-            if space < 9 {
-                return Reading::Malformed(9);
-            }
-            Reading::Found(e, q)
-        }
+        return Reading::Malformed(9);
     }
+    records::reading(script, place)
 }
 
 // The step that is done. Where there is none, it is one that every state refuses: no bit times at all.
@@ -105,26 +97,42 @@ fn write_answer(reply: &mut [u8], ended: bool, code: u8, lines: u8, word: u32)
     write_reply(reply, code, lines, word);
 }
 
+// What one record gives, the banks' words by the place (`bank`) and the value of the one that is written: none at place 28.
+pub struct CoreReplayed {
+    pub core: Core,
+    pub place: usize,
+    pub ended: bool,
+    pub code: u8,
+    pub lines: u8,
+    pub word: u32,
+    pub bank: u32,
+    pub value: u32,
+}
+
 // One record: it is read, its step is done, and its reply is written to the first nine bytes of the reply space. The
 // state has one way through: a second call that takes it would copy it in every record.
-pub fn replayed(z: Controller, script: &[u8], place: usize, reply: &mut [u8]) -> Replayed
-    ensures { λ r. ⌜ r ≡ scripts.recordAt z (now (script .entry)) place (length (now (reply .entry))) ⌝ }
-    ensures { λ r. ⌜ now (reply .exit) ≡ scripts.overwritten (scripts.replyOf r) (now (reply .entry)) ⌝ }
+pub fn core_replayed(z: Controller, script: &[u8], place: usize, reply: &mut [u8]) -> CoreReplayed
+    ensures { λ r. ⌜ r ≡ way.coreReplayed z (now (script .entry)) place (length (now (reply .entry))) ⌝ }
+    ensures { λ r. ⌜ now (reply .exit) ≡ scripts.overwritten (scripts.replyOf (way.whole z r)) (now (reply .entry)) ⌝ }
 {
-    let x = answerable(records::reading(script, place), reply.len());
-    let a = controller::step(z, step_of(x));
-    let d = a.controller;
+    let x = readable(script, place, reply.len());
+    let c = z.core;
+    let banks = z.banks;
+    let a = controller::core_step(c, banks, step_of(x));
+    let d = a.core;
     let code = code_of(x, a.code);
     let ended = is_end(x);
     let next = place_of(x, script.len(), place);
     write_answer(reply, ended, code, a.lines, a.word);
-    Replayed {
-        controller: d,
+    CoreReplayed {
+        core: d,
         place: next,
         ended: ended,
         code: code,
         lines: a.lines,
         word: a.word,
+        bank: a.place,
+        value: a.value,
     }
 }
 
