@@ -1,12 +1,13 @@
 -- Words with a bit for each bank: of a class, and of those that a search looks at. Assumes nothing.
 use mathlib.Core.Path.{_≡_, refl}
 use mathlib.Core.Bool.{Bool, true, false, not, _&&_}
-use Prim.Native.Nat.{ℕ, _-_, _/_, _%_, _^_, _<_, min}
+use Prim.Native.Nat.{ℕ, _-_, _/_, _%_, _^_, _≤_, _<_, min}
 use native.Mathlib.Omega.{arith}
-use lib.Dec.{eqb}
+use lib.Dec.{eqb, ltb}
+use borrow.Author.Tests.{ltb-false}
 use lib.Bits.{bitAnd}
-use Rattle.model.specs.Base.{bit}
-use Rattle.model.specs.Banks.{isActive, classBy, classOf, rank, belongs, own}
+use Rattle.model.specs.Base.{pick, bit}
+use Rattle.model.specs.Banks.{banksBelow, isActive, classBy, classOf, rank, belongs, own}
 use Rattle.model.specs.Search.{searched}
 use Rattle.model.specs.declared.Filters.{Filters}
 use Rattle.model.specs.declared.Bank.{Bank}
@@ -83,3 +84,12 @@ unfolding searched
 searched-bit g k f x b h ha e =
     rw (and-bit (b .0) (bitAnd (g .activation) x) (own f g), and-bit (b .0) (g .activation) x, own-digit f g b h ha, e)
     (of-three (isActive g b) (belongs f g b) (eqb (rank (classOf g b)) (rank k)))
+
+-- ---- how many of the 14 banks lie below one
+
+pub banks-below-same : (b : Bank) → b .0 ≤ 14 → banksBelow 14 b ≡ b .0
+banks-below-same b h = go (ltb (b .0) 14) refl
+  where
+    go : (t : Bool) → ltb (b .0) 14 ≡ t → pick t (b .0) 14 ≡ b .0
+    go true e = refl
+    go false e = omega (arith, ltb-false (b .0) 14 e)

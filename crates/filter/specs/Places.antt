@@ -3,7 +3,7 @@
 use mathlib.Core.Bool.{Bool, false, _||_}
 use mathlib.Core.Path.{_≡_}
 use mathlib.Core.List.{List}
-use Prim.Native.Nat.{ℕ, _+_, _*_, _/_, _%_, _≤_}
+use Prim.Native.Nat.{ℕ, _+_, _*_, _/_, _%_, _≤_, _<_}
 use lib.Dec.{eqb, ltb, leb}
 use Rattle.model.specs.Base.{pick}
 use Rattle.model.specs.Banks.{bank, filterNumber, firstNumber, numberOf}
@@ -20,6 +20,10 @@ use Rattle.filter.specs.declared.Place.{Place}
 use Rattle.filter.specs.declared.Places.{Places}
 use Rattle.filter.specs.declared.WinningFilter.{WinningFilter}
 
+-- a place of the 14 banks, or none
+abbrev pub Within : Place → Type 0
+Within p = (p .0 ≤ 128) × (p .0 < 128 → p .0 < 56)
+
 -- the filter at a place, by its number in a FIFO
 unfoldable pub hitOf : Filters → Fifo → Place → Hit
 hitOf g f p = pick (ltb (p .0) 128) (Filter (numberOf 14 g f (bank (p .0 / 4)) (p .0 % 4))) Nothing
@@ -31,7 +35,7 @@ numberAt g f p = pick (ltb (p .0) 128) (firstNumber 14 g f (bank (p .0 / 4)) .0 
 -- the first matches of a class in both FIFOs
 abbrev pub First : Filters → List ℕ → ℕ → FilterClass → Places → Type 0
 First g v w k p =
-    ((p .f0 .0 ≤ 128) × (p .f1 .0 ≤ 128))
+    (Within (p .f0) × Within (p .f1))
     × ((hitOf g F0 (p .f0) ≡ firstHit 14 g v w k F0) × (hitOf g F1 (p .f1) ≡ firstHit 14 g v w k F1))
 
 unfoldable pub anyPlace : Places → Bool
@@ -39,7 +43,7 @@ anyPlace p = ltb (p .f0 .0) 128 || ltb (p .f1 .0) 128
 
 -- the first matches of the class that wins
 abbrev pub Best : Filters → List ℕ → ℕ → Places → Type 0
-Best g v w p = ((p .f0 .0 ≤ 128) × (p .f1 .0 ≤ 128)) × (better (hitOf g F0 (p .f0)) (hitOf g F1 (p .f1)) ≡ acceptance 14 g v w)
+Best g v w p = (Within (p .f0) × Within (p .f1)) × (better (hitOf g F0 (p .f0)) (hitOf g F1 (p .f1)) ≡ acceptance 14 g v w)
 
 -- a winner: twice the filter's number, and one more in FIFO 1; 510 for none
 unfoldable pub winnerOf : Acceptance → WinningFilter

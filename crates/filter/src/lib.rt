@@ -107,10 +107,10 @@ fn own(f: Fifo, g: Filters) -> u32
 // Each lower bank of the FIFO, active or not, takes one number, one more if it is a list, and as many again
 // if it has 16 bits: the four words of such banks side by side, and one count of their ones.
 fn first_number_of(g: Filters, f: Fifo, b: Bank) -> FilterNumber
+    requires { ⌜ b .0 ≤ 14 ⌝ }
     ensures { λ r. ⌜ (r ≡ banks.firstNumber 14 g f b) × (r .0 ≤ 56) ⌝ }
 {
-    let i = pick_u32(b.0 < 14, b.0, 14);
-    let mine = own(f, g) & ((1 << i) - 1);
+    let mine = own(f, g) & ((1 << b.0) - 1);
     let lists = mine & g.mode;
     let halves = !g.scale;
     let sides = (mine as u64)
@@ -125,7 +125,8 @@ fn first_number_of(g: Filters, f: Fifo, b: Bank) -> FilterNumber
 pub fn first_number(g: Filters, f: Fifo, b: Bank) -> FilterNumber
     ensures { λ r. ⌜ r ≡ banks.firstNumber 14 g f b ⌝ }
 {
-    first_number_of(g, f, b)
+    let i = pick_u32(b.0 < 14, b.0, 14);
+    first_number_of(g, f, Bank(i))
 }
 
 // ---- the search of one class in one FIFO
@@ -149,7 +150,7 @@ struct Place(u32);
 // bank that is left comes next.
 fn first_place(banks: &[u32; 28], w: u32, short: u32, k: FilterClass, part: u32) -> Place
     requires { ⌜ short ≡ shortWord w ⌝ }
-    ensures { λ r. ⌜ (r .0 ≤ 128) × ((g : Filters) (f : Fifo) → ((b : Bank) → b .0 < 32 → base.bit (b .0) part ≡ search.searched g k f b) → places.hitOf g f r ≡ search.firstHit 14 g (now (banks .entry)) w k f) ⌝ }
+    ensures { λ r. ⌜ places.Within r × ((g : Filters) (f : Fifo) → ((b : Bank) → b .0 < 32 → base.bit (b .0) part ≡ search.searched g k f b) → places.hitOf g f r ≡ search.firstHit 14 g (now (banks .entry)) w k f) ⌝ }
 {
     let m = width(k);
     let mut left = part;
@@ -225,6 +226,7 @@ fn best_places(g: Filters, banks: &[u32; 28], w: u32) -> Places
 
 // The number of the filter at a place, 255 for none.
 fn number_at(g: Filters, f: Fifo, p: Place) -> u32
+    requires { ⌜ places.Within p ⌝ }
     ensures { λ r. ⌜ r ≡ places.numberAt g f p ⌝ }
 {
     if 128 <= p.0 {

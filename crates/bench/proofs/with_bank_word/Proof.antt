@@ -1,3 +1,4 @@
+-- The words are those of `banks_after`.
 use borrow.Author.Needs.{needs}
 use Rattle.bench.proofs.with_bank_word.Statement.{statement}
 use Rattle.bench.proofs.with_bank_word.Tie as tie

@@ -88,7 +88,7 @@ returns : tie.Need-returns Inv-loop μ-loop Inv-search μ-search
 unfolding firstHit hitOf
 returns c =
     let s = c .before .search in
-    (omega arith, λ g f e. sym (none-before _ _ _ _ _ _ (s .left) (s .inv g f e) _ (omega arith) (omega arith)))
+    ((omega arith, λ h. absurd (omega arith)), λ g f e. sym (none-before _ _ _ _ _ _ (s .left) (s .inv g f e) _ (omega arith) (omega arith)))
 
 returns-2 : tie.Need-returns-2 Inv-loop μ-loop Inv-search μ-search
 unfolding firstHit hitIn
@@ -99,7 +99,7 @@ returns-2 c =
     let below : j < 4 = omega (arith, tested .width .ensures, width-le (tested .before .args .k)) in
     let words = c .before .before .before .before in
     let match = rw (c .before .takes .ensures, words .before .first-word .ensures, words .second-word .ensures) at (c .if2 .taken) in (
-      omega arith,
+      (omega arith, λ _. omega arith),
       λ g f e.
           let inv = s .inv g f e in
           let tries = tested .width .ensures ∙ sym (lowest-tried _ _ _ _ _ _ (s .left) inv (omega arith)) in

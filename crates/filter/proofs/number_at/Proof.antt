@@ -1,4 +1,5 @@
 -- The first number of the bank, and the filter's place in it.
+use native.Mathlib.Omega.{arith}
 use borrow.Author.Tests.{lt-ltb, le-ltb}
 use borrow.Author.Needs.{needs}
 use Rattle.filter.specs.Places.{numberAt}
@@ -10,7 +11,7 @@ unfolding numberAt
 returns c = simp (le-ltb _ _ (c .if1 .taken))
 
 first-number-of-requires : tie.Need-first-number-of-requires
-first-number-of-requires c κs = search needs
+first-number-of-requires c κs = let below = c .before .before .before .pre .1 (c .before .if1 .left) in omega arith
 
 cast-result : tie.Need-cast-result
 cast-result c = search needs

@@ -19,7 +19,7 @@ returns c =
     let at = c .before .before .before .args in
     let words = c .before .before .of-class .ensures in
     let fits : at .g .assignment < 2 ^ 32 = omega (arith, c .before .struct-known .given) in
-    ((omega arith, omega arith), (sym (none-of-class _ (at .g) _ _ (at .k) F0 _ words fits (c .if1 .taken) (omega arith)), sym (none-of-class _ (at .g) _ _ (at .k) F1 _ words fits (c .if1 .taken) (omega arith))))
+    (((omega arith, λ h. absurd (omega arith)), (omega arith, λ h. absurd (omega arith))), (sym (none-of-class _ (at .g) _ _ (at .k) F0 _ words fits (c .if1 .taken) (omega arith)), sym (none-of-class _ (at .g) _ _ (at .k) F1 _ words fits (c .if1 .taken) (omega arith))))
 
 first-place-requires : tie.Need-first-place-requires
 first-place-requires c κs = search needs

@@ -12,13 +12,13 @@ best-places-requires : tie.Need-best-places-requires
 best-places-requires c κs = search needs
 
 number-at-requires : tie.Need-number-at-requires
-number-at-requires c κs = search needs
+number-at-requires c κs = c .best-places .ensures .0 .0
 
 mul-n0 : tie.Need-mul-n0
 mul-n0 c = let small : c .number-at .result ≤ 255 = rw (c .number-at .ensures) (number-at-le _ _ _) in omega arith
 
 number-at-requires-2 : tie.Need-number-at-requires-2
-number-at-requires-2 c κs = search needs
+number-at-requires-2 c κs = c .before .best-places .ensures .0 .1
 
 mul-n1 : tie.Need-mul-n1
 mul-n1 c = let small : c .number-at2 .result ≤ 255 = rw (c .number-at2 .ensures) (number-at-le _ _ _) in omega arith
