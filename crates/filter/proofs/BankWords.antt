@@ -6,6 +6,7 @@ use native.Mathlib.Omega.{arith}
 use lib.Dec.{eqb, ltb}
 use borrow.Author.Tests.{ltb-false}
 use lib.Bits.{bitAnd}
+use lib.Pow.{shr-le}
 use Rattle.model.specs.Base.{pick, bit}
 use Rattle.model.specs.Banks.{banksBelow, isActive, classBy, classOf, rank, belongs, own}
 use Rattle.model.specs.Search.{searched}
@@ -34,6 +35,10 @@ and-bit i a b = rw (and-digit i a b) (both-digits (a / 2 ^ i % 2) (b / 2 ^ i % 2
 
 pub not-bit : (i a : ℕ) → i < 32 → a < 2 ^ 32 → bit i ((2 ^ 32 - 1) - a) ≡ not (bit i a)
 not-bit i a h l = rw (not-digit i a h l) (other-digit (a / 2 ^ i % 2) (omega arith))
+
+-- the word 0 has no bit
+pub no-bit : (i : ℕ) → bit i 0 ≡ false
+no-bit i = let none : 0 / 2 ^ i ≡ 0 = omega (arith, shr-le 0 i) in rw none
 
 -- ---- the banks of a class, from the words g .scale and g .mode
 
@@ -84,6 +89,16 @@ unfolding searched
 searched-bit g k f x b h ha e =
     rw (and-bit (b .0) (bitAnd (g .activation) x) (own f g), and-bit (b .0) (g .activation) x, own-digit f g b h ha, e)
     (of-three (isActive g b) (belongs f g b) (eqb (rank (classOf g b)) (rank k)))
+
+-- a bank that is searched is one of its FIFO
+pub searched-belongs : (g : Filters) (k : FilterClass) (f : Fifo) (b : Bank) → searched g k f b ≡ true → belongs f g b ≡ true
+unfolding searched
+searched-belongs g k f b = second (isActive g b) (belongs f g b) (eqb (rank (classOf g b)) (rank k))
+  where
+    second : (a o x : Bool) → (a && (o && x)) ≡ true → o ≡ true
+    second true true x e = refl
+    second true false x e = e
+    second false o x e = let z : _≡_ {A = ℕ} 0 1 = cc in absurd (omega arith)
 
 -- ---- how many of the 14 banks lie below one
 

@@ -1,27 +1,18 @@
--- A search that takes the lowest bank of those that are left, and then clears its bit. Assumes nothing.
+-- A walk over the banks of a word that takes the lowest of those that are left, and then clears its bit. Assumes nothing.
 use mathlib.Core.Path.{_≡_, refl, sym, ap, _∙_}
 use mathlib.Core.Bool.{Bool, true, false, not, _&&_}
-use mathlib.Core.List.{List}
 use mathlib.Core.Logic.{_⊎_, inl, inr}
 use Prim.Native.Nat.{ℕ, zero, suc, _+_, _-_, _*_, _/_, _%_, _^_, _≤_, _<_}
 use native.Mathlib.Nat.{div-eq-of-lt, div-one, one-mul, pow-suc}
 use native.Mathlib.Omega.{arith}
 use lib.Dec.{eqb}
-use lib.Bits.{bitAnd, and-le-l, and-zero-l}
-use lib.Count.{trailingZeros, under, trailing-of-zero}
+use lib.Bits.{bitAnd, and-le-l}
+use lib.Count.{trailingZeros, under}
 use lib.Pow.{pow-lt, pow-add, shl-shr}
 use Rattle.model.specs.Base.{bit}
-use Rattle.model.specs.Banks.{bank, classOf, rank, width, own}
-use Rattle.model.specs.Search.{first, searched, tried, hitIn, firstHit}
-use Rattle.model.specs.declared.Filters.{Filters}
-use Rattle.model.specs.declared.Bank.{Bank}
-use Rattle.model.specs.declared.Fifo.{Fifo}
-use Rattle.model.specs.declared.FilterClass.{FilterClass}
-use Rattle.model.specs.declared.Hit.{Hit}
-use Rattle.model.specs.declared.Hit.the-variants.{Nothing}
 use Rattle.model.proofs.Digits.{digit-of-half, one-shifted}
 use Rattle.model.proofs.FirstHit.{lower}
-use Rattle.filter.proofs.BankWords.{and-bit, not-bit, searched-bit}
+use Rattle.filter.proofs.BankWords.{and-bit, not-bit}
 
 -- ---- the lowest digit that is 1
 
@@ -51,7 +42,7 @@ pub lowest-set : (x : ℕ) → trailingZeros 32 x < 32 → bit (trailingZeros 32
 lowest-set x h = ap (λ (d : ℕ). eqb d 1) (trailing-at 32 x h)
 
 -- and the banks below have not
-below-lowest : (x j : ℕ) → j < trailingZeros 32 x → bit j x ≡ false
+pub below-lowest : (x j : ℕ) → j < trailingZeros 32 x → bit j x ≡ false
 below-lowest x j h = ap (λ (d : ℕ). eqb d 1) (trailing-low 32 x j h)
 
 -- ---- a bit cleared
@@ -101,57 +92,37 @@ module _ (x i : ℕ) (h : i < 32) where
         let own : bit i x ≡ false = rw same at without-own in let z : _≡_ {A = ℕ} 0 1 = cc in absurd (omega arith)
   ]
 
--- ---- the search
+-- ---- the walk
 
-nothing-below : (p : ℕ → Hit) (n : ℕ) → ((j : ℕ) → j < n → p j ≡ Nothing) → first p n ≡ Nothing
-unfolding first
-nothing-below p zero h = refl
-nothing-below p (suc n) h = rw (nothing-below p n (λ j l. h j (omega arith)), h n (omega arith))
+-- of the banks of the word x, those from bank i on are left in y
+pub record From (x i y : ℕ) : Type 0 where
+  pub passed : (j : ℕ) → j < i → j < 32 → bit j y ≡ false
+  pub left : (j : ℕ) → i ≤ j → j < 32 → bit j y ≡ bit j x
 
--- a bank that is left is one of those that are searched; any other has no hit
-pub record Left (n : ℕ) (g : Filters) (v : List ℕ) (w : ℕ) (k : FilterClass) (f : Fifo) (x : ℕ) : Type 0 where
-  pub within : (i : ℕ) → i < 32 → bit i x ≡ true → searched g k f (bank i) ≡ true
-  pub passed : (i : ℕ) → i < 32 → bit i x ≡ false → hitIn n g v w k f (bank i) ≡ Nothing
+pub from-first : (x : ℕ) → From x 0 x
+from-first x = record { passed = λ j l h. absurd (omega arith); left = λ j l h. refl }
 
-module _ (n : ℕ) (g : Filters) (v : List ℕ) (w : ℕ) (k : FilterClass) (f : Fifo) where
-  unsearched : (b : Bank) → searched g k f b ≡ false → hitIn n g v w k f b ≡ Nothing
-  unfolding hitIn tried first
-  unsearched b e = rw e
+module _ (x i y : ℕ) (s : From x i y) where
+  -- a bank of x from i on below the lowest that is left is none of x
+  pub none-between : (j : ℕ) → i ≤ j → j < trailingZeros 32 y → j < 32 → bit j x ≡ false
+  none-between j l m h = sym (s .left j l h) ∙ below-lowest y j m
 
-  -- at first all that are searched are left
-  pub all-left : (x : ℕ) → ((b : Bank) → b .0 < 32 → bit (b .0) x ≡ searched g k f b) → Left n g v w k f x
-  all-left x e = record { within = λ i h b. sym (e (bank i) h) ∙ b; passed = λ i h b. unsearched (bank i) (sym (e (bank i) h) ∙ b) }
+  module _ (h : trailingZeros 32 y < 32) where
+    pub lowest-from : i ≤ trailingZeros 32 y
+    lowest-from = elim (lower (trailingZeros 32 y) i) [
+      | inl l ↦ let gone = s .passed (trailingZeros 32 y) l h in
+          let here = lowest-set y h in let z : _≡_ {A = ℕ} 0 1 = cc in absurd (omega arith)
+      | inr l ↦ l
+    ]
 
-  module _ (x : ℕ) (s : Left n g v w k f x) where
-    -- no bank up to the lowest that is left has a hit
-    pub none-before : (i : ℕ) → i ≤ trailingZeros 32 x → i ≤ 32 → first (λ (j : ℕ). hitIn n g v w k f (bank j)) i ≡ Nothing
-    none-before i l h = nothing-below _ i (λ j b. s .passed j (omega arith) (below-lowest x j (omega arith)))
+    pub lowest-in : bit (trailingZeros 32 y) x ≡ true
+    lowest-in = sym (s .left (trailingZeros 32 y) lowest-from h) ∙ lowest-set y h
 
-    -- all filters of the lowest are tried
-    pub lowest-tried : trailingZeros 32 x < 32 → tried g k f (bank (trailingZeros 32 x)) ≡ width k
-    unfolding tried
-    lowest-tried h = rw (s .within (trailingZeros 32 x) h (lowest-set x h))
-
-    -- a bank without a hit is cleared
-    pub fewer-left : (i : ℕ) → i < 32 → hitIn n g v w k f (bank i) ≡ Nothing → Left n g v w k f (without x i)
-    fewer-left i h e = record { within = λ j l b. inside j l b (lower i j) (lower j i); passed = λ j l b. gone j l b (lower i j) (lower j i) }
-      where
-        inside : (j : ℕ) → j < 32 → bit j (without x i) ≡ true → (i < j) ⊎ (j ≤ i) → (j < i) ⊎ (i ≤ j) → searched g k f (bank j) ≡ true
-        inside j l b (inl a) c = s .within j l (sym (without-other x i h j l (power-above i j a)) ∙ b)
-        inside j l b (inr a) (inl c) = s .within j l (sym (without-other x i h j l (power-below i j c)) ∙ b)
-        inside j l b (inr a) (inr c) =
-            let same : j ≡ i = omega arith in
-            let own : bit j (without x i) ≡ false = rw same (without-own x i h) in let z : _≡_ {A = ℕ} 0 1 = cc in absurd (omega arith)
-
-        gone : (j : ℕ) → j < 32 → bit j (without x i) ≡ false → (i < j) ⊎ (j ≤ i) → (j < i) ⊎ (i ≤ j) → hitIn n g v w k f (bank j) ≡ Nothing
-        gone j l b (inl a) c = s .passed j l (sym (without-other x i h j l (power-above i j a)) ∙ b)
-        gone j l b (inr a) (inl c) = s .passed j l (sym (without-other x i h j l (power-below i j c)) ∙ b)
-        gone j l b (inr a) (inr c) = let same : j ≡ i = omega arith in rw same e
-
-  -- where no active bank is of the class there is no hit; x is the word of the banks of the class
-  pub none-of-class : (x : ℕ) → ((b : Bank) → b .0 < 32 → bit (b .0) x ≡ eqb (rank (classOf g b)) (rank k)) → g .assignment < 2 ^ 32
-      → bitAnd (g .activation) x ≡ 0 → n ≤ 32 → firstHit n g v w k f ≡ Nothing
-  unfolding firstHit
-  none-of-class x e ha z l =
-      let none : (b : Bank) → b .0 < 32 → bit (b .0) 0 ≡ searched g k f b = λ b h. rw (z, and-zero-l (own f g)) at (searched-bit g k f x b h ha (e b h)) in
-      none-before 0 (all-left 0 none) n (rw (trailing-of-zero 32) l) l
+    pub from-next : From x (suc (trailingZeros 32 y)) (without y (trailingZeros 32 y))
+    from-next = record {
+      passed = λ j l b. elim (lower j (trailingZeros 32 y)) [
+        | inl m ↦ without-other y (trailingZeros 32 y) h j b (power-below (trailingZeros 32 y) j m) ∙ below-lowest y j m
+        | inr m ↦ let same : j ≡ trailingZeros 32 y = omega arith in rw same (without-own y (trailingZeros 32 y) h)
+      ];
+      left = λ j l b. without-other y (trailingZeros 32 y) h j b (power-above (trailingZeros 32 y) j l) ∙ s .left j (omega (arith, lowest-from)) b;
+    }

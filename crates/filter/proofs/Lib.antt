@@ -1,4 +1,9 @@
+pub mod After
 pub mod BankWords
+pub mod Candidates
+pub mod Classes
 pub mod LeftBanks
+pub mod Numbered
+pub mod Passed
 pub mod SideBySide
 pub mod Winners

@@ -1,4 +1,4 @@
--- What stands at a place, the class that wins, and the number that stands for a winner and tells its acceptance. Assumes nothing.
+-- What stands at a place, and the number that stands for a winner and tells its acceptance. Assumes nothing.
 use mathlib.Core.Path.{_≡_, refl, sym, ap, _∙_}
 use mathlib.Core.Bool.{Bool, true, false, _||_}
 use mathlib.Core.List.{List, [], _∷_}
@@ -22,9 +22,8 @@ use Rattle.model.proofs.FirstHit.{nothing-no-filter}
 use Rattle.model.proofs.FilterNumbers.{numbers-below-le, fmi-small}
 use Rattle.model.proofs.Numbering.{banks-below-le}
 use Rattle.model.proofs.Preference.{last-class}
-use Rattle.filter.specs.Places.{hitOf, numberAt, First, anyPlace, winnerOf, acceptedBy, filtersOf}
+use Rattle.filter.specs.Places.{Within, hitOf, numberAt, winnerOf, acceptedBy, lower, filtersOf}
 use Rattle.filter.specs.declared.Place.{Place}
-use Rattle.filter.specs.declared.Places.{Places}
 
 -- ---- the filter at a place
 
@@ -69,6 +68,17 @@ module _ (g : Filters) (f : Fifo) (p : Place) where
       go (Filter x) e = omega (arith, hit-small x e)
       go Nothing e = omega arith
 
+  -- the number of a filter that is found
+  pub number-found : (x : FilterNumber) → hitOf g f p ≡ Filter x → numberAt g f p ≡ x .0
+  number-found x e = number-of-hit ∙ rw e
+
+  -- it is below 56
+  pub number-small : Within p → p .0 < 128 → numberAt g f p ≤ 56
+  unfolding numberAt firstNumber
+  number-small h l =
+      let i = banksBelow 14 (bank (p .0 / 4)) in
+      rw (lt-ltb (p .0) 128 l, lt-ltb (p .0 / 4) 14 (omega (arith, h .1 l))) (omega (arith, h .1 l, numbers-below-le f g (p .0 / 4)))
+
 -- ---- the smaller of two winners
 
 abbrev twice : Hit → ℕ
@@ -89,58 +99,17 @@ smaller Nothing (Filter y) hx hy = let small = hy y refl in rw (le-ltb 510 (2 * 
 smaller Nothing Nothing hx hy = refl
 
 -- so the winner of two places is that of their hits
-pub winner-of-places : (g : Filters) (p : Places)
-    → record { 0 = pick (ltb (2 * numberAt g F0 (p .f0)) (2 * numberAt g F1 (p .f1) + 1)) (2 * numberAt g F0 (p .f0)) (2 * numberAt g F1 (p .f1) + 1) }
-    ≡ winnerOf (better (hitOf g F0 (p .f0)) (hitOf g F1 (p .f1)))
-winner-of-places g p =
-    rw (number-of-hit g F0 (p .f0), number-of-hit g F1 (p .f1))
-    (smaller (hitOf g F0 (p .f0)) (hitOf g F1 (p .f1)) (hit-small g F0 (p .f0)) (hit-small g F1 (p .f1)))
+pub lower-wins : (g : Filters) (p q : Place)
+    → lower (numberAt g F0 p) (numberAt g F1 q) ≡ winnerOf (better (hitOf g F0 p) (hitOf g F1 q))
+unfolding lower
+lower-wins g p q =
+    rw (number-of-hit g F0 p, number-of-hit g F1 q) (smaller (hitOf g F0 p) (hitOf g F1 q) (hit-small g F0 p) (hit-small g F1 q))
 
--- ---- the class that wins
-
-abbrev betterAt : Filters → Places → Acceptance
-betterAt g p = better (hitOf g F0 (p .f0)) (hitOf g F1 (p .f1))
-
-module _ (g : Filters) (p : Places) where
-  stays : (b : Acceptance) → anyPlace p ≡ true → orNext (betterAt g p) b ≡ betterAt g p
-  unfolding anyPlace hitOf
-  stays b e = go (ltb (p .f0 .0) 128) (ltb (p .f1 .0) 128) e _ _
-    where
-      go : (s t : Bool) → (s || t) ≡ true → (x y : FilterNumber)
-          → orNext (better (pick s (Filter x) Nothing) (pick t (Filter y) Nothing)) b ≡ better (pick s (Filter x) Nothing) (pick t (Filter y) Nothing)
-      go true true e x y = both (ltb (y .0) (x .0))
-        where
-          both : (c : Bool) → orNext (pick c (Into F1 y) (Into F0 x)) b ≡ pick c (Into F1 y) (Into F0 x)
-          both true = refl
-          both false = refl
-      go true false e x y = refl
-      go false true e x y = refl
-      go false false e x y = let z : _≡_ {A = ℕ} 0 1 = cc in absurd (omega arith)
-
-  passes : anyPlace p ≡ false → betterAt g p ≡ Rejected
-  unfolding anyPlace hitOf
-  passes e = go (ltb (p .f0 .0) 128) (ltb (p .f1 .0) 128) e _ _
-    where
-      go : (s t : Bool) → (s || t) ≡ false → (x y : FilterNumber) → better (pick s (Filter x) Nothing) (pick t (Filter y) Nothing) ≡ Rejected
-      go false false e x y = refl
-      go true t e x y = let z : _≡_ {A = ℕ} 0 1 = cc in absurd (omega arith)
-      go false true e x y = let z : _≡_ {A = ℕ} 0 1 = cc in absurd (omega arith)
-
-module _ (g : Filters) (v : List ℕ) (w : ℕ) (k : FilterClass) (p : Places) (h : First g v w k p) where
-  -- a class with a match wins over those after it
-  pub class-wins : (l : List FilterClass) → anyPlace p ≡ true → betterAt g p ≡ chosen (firstHit 14 g v w) (k ∷ l)
-  unfolding chosen
-  class-wins l e = rw (← (h .1 .0), ← (h .1 .1)) (sym (stays g p _ e))
-
-  -- one without leaves the choice to them
-  pub class-passes : (l : List FilterClass) → anyPlace p ≡ false → chosen (firstHit 14 g v w) l ≡ chosen (firstHit 14 g v w) (k ∷ l)
-  unfolding chosen
-  class-passes l e = rw (← (h .1 .0), ← (h .1 .1), passes g p e)
-
-  -- the last class decides
-  pub class-last : betterAt g p ≡ chosen (firstHit 14 g v w) (k ∷ [])
-  unfolding chosen
-  class-last = rw (← (h .1 .0), ← (h .1 .1)) (sym (last-class _))
+-- without a match in FIFO 0
+pub lower-of-one : (g : Filters) (q : Place) → lower 255 (numberAt g F1 q) ≡ winnerOf (better Nothing (hitOf g F1 q))
+unfolding lower
+lower-of-one g q =
+    rw (number-of-hit g F1 q) (smaller Nothing (hitOf g F1 q) (λ x e. nothing-no-filter refl e) (hit-small g F1 q))
 
 -- ---- the acceptance that a winner stands for
 

@@ -1,14 +1,17 @@
--- A place in the search, and what stands at it. Document 01: "Order, filters, storage".
+-- A place in the search, what stands at it, and what each part of the search finds. Document 01: "Order, filters, storage"; 02: Q-3.
 -- A place is four times the bank's number and the filter's place in the bank; 128 stands for none.
-use mathlib.Core.Bool.{Bool, false, _||_}
+-- v are the words R1 and R2 of the banks in turn, w is a frame's identifier word.
+use mathlib.Core.Bool.{Bool, true, false, _||_}
 use mathlib.Core.Path.{_≡_}
 use mathlib.Core.List.{List}
 use Prim.Native.Nat.{ℕ, _+_, _*_, _/_, _%_, _≤_, _<_}
 use lib.Dec.{eqb, ltb, leb}
-use Rattle.model.specs.Base.{pick}
-use Rattle.model.specs.Banks.{bank, filterNumber, firstNumber, numberOf}
-use Rattle.model.specs.Search.{firstHit, better, acceptance}
+use lib.ListN.{length}
+use Rattle.model.specs.Base.{pick, bit}
+use Rattle.model.specs.Banks.{bank, filterNumber, width, firstNumber, numberOf}
+use Rattle.model.specs.Search.{first, searched, hitAt, firstHit, better, acceptance}
 use Rattle.model.specs.declared.Filters.{Filters}
+use Rattle.model.specs.declared.Bank.{Bank}
 use Rattle.model.specs.declared.FilterClass.{FilterClass}
 use Rattle.model.specs.declared.Fifo.{Fifo}
 use Rattle.model.specs.declared.Fifo.the-variants.{F0, F1}
@@ -16,9 +19,15 @@ use Rattle.model.specs.declared.Hit.{Hit}
 use Rattle.model.specs.declared.Hit.the-variants.{Filter, Nothing}
 use Rattle.model.specs.declared.Acceptance.{Acceptance}
 use Rattle.model.specs.declared.Acceptance.the-variants.{Into, Rejected}
+use Rattle.filter.specs.Compared.{ofBanks, upToFirst, takesFrame, upToMatch, triedAfter, comparedIn, compared}
 use Rattle.filter.specs.declared.Place.{Place}
-use Rattle.filter.specs.declared.Places.{Places}
+use Rattle.filter.specs.declared.FirstMatch.{FirstMatch}
+use Rattle.filter.specs.declared.Leading.{Leading}
+use Rattle.filter.specs.declared.BestClass.{BestClass}
 use Rattle.filter.specs.declared.WinningFilter.{WinningFilter}
+use Rattle.filter.specs.declared.SearchResult.{SearchResult}
+
+-- ---- places
 
 -- a place of the 14 banks, or none
 abbrev pub Within : Place → Type 0
@@ -32,18 +41,65 @@ hitOf g f p = pick (ltb (p .0) 128) (Filter (numberOf 14 g f (bank (p .0 / 4)) (
 unfoldable pub numberAt : Filters → Fifo → Place → ℕ
 numberAt g f p = pick (ltb (p .0) 128) (firstNumber 14 g f (bank (p .0 / 4)) .0 + p .0 % 4) 255
 
--- the first matches of a class in both FIFOs
-abbrev pub First : Filters → List ℕ → ℕ → FilterClass → Places → Type 0
-First g v w k p =
-    (Within (p .f0) × Within (p .f1))
-    × ((hitOf g F0 (p .f0) ≡ firstHit 14 g v w k F0) × (hitOf g F1 (p .f1) ≡ firstHit 14 g v w k F1))
+-- ---- one search
 
-unfoldable pub anyPlace : Places → Bool
+-- a word with a bit for each bank: how many filters of class k each of its banks has
+abbrev pub among : FilterClass → ℕ → Bank → ℕ
+among k x b = pick (bit (b .0) x) (width k) 0
+
+-- of t b filters of each bank b, the first that matches; `firstHit` is this of the filters that are `tried`
+unfoldable pub firstOf : Filters → List ℕ → ℕ → FilterClass → Fifo → (Bank → ℕ) → Hit
+firstOf g v w k f t = first (λ (i : ℕ). first (hitAt 14 g v w k f (bank i)) (t (bank i))) 14
+
+-- the first match in the banks of the word x, and how many filters were compared
+pub record FirstIn (v : List ℕ) (w : ℕ) (k : FilterClass) (x : ℕ) (p : FirstMatch) : Type 0 where
+  pub within : Within (p .place)
+  pub hit : (g : Filters) (f : Fifo) → hitOf g f (p .place) ≡ firstOf g v w k f (among k x)
+  pub compared : p .compared ≡ length (upToFirst (takesFrame v w k) (ofBanks (among k x) 14))
+  pub few : p .compared ≤ 56
+
+-- ---- one class: FIFO 0's first match, or where it has none FIFO 1's
+
+-- the banks of FIFO 1 that are searched, as a word
+abbrev pub Rest : Filters → FilterClass → ℕ → Type 0
+Rest g k x = (b : Bank) → b .0 < 14 → bit (b .0) x ≡ searched g k F1 b
+
+pub record Leads (g : Filters) (v : List ℕ) (w : ℕ) (k : FilterClass) (p : Leading) : Type 0 where
+  pub within0 : Within (p .f0)
+  pub within1 : Within (p .f1)
+  pub few : p .compared ≤ 112
+  pub hit0 : hitOf g F0 (p .f0) ≡ firstHit 14 g v w k F0
+  -- with a match in FIFO 0 the banks of FIFO 1 are left to search
+  pub rest : p .f0 .0 < 128 → Rest g k (p .rest)
+  pub compared0 : p .f0 .0 < 128 → p .compared ≡ length (upToMatch 14 g v w k F0)
+  pub hit1 : 128 ≤ p .f0 .0 → hitOf g F1 (p .f1) ≡ firstHit 14 g v w k F1
+  pub compared1 : 128 ≤ p .f0 .0 → p .compared ≡ length (comparedIn 14 g v w k)
+
+unfoldable pub anyPlace : Leading → Bool
 anyPlace p = ltb (p .f0 .0) 128 || ltb (p .f1 .0) 128
 
--- the first matches of the class that wins
-abbrev pub Best : Filters → List ℕ → ℕ → Places → Type 0
-Best g v w p = (Within (p .f0) × Within (p .f1)) × (better (hitOf g F0 (p .f0)) (hitOf g F1 (p .f1)) ≡ acceptance 14 g v w)
+-- with the comparisons of the classes before it
+unfoldable pub counted : Leading → ℕ → Leading
+counted p m = record { f0 = p .f0; f1 = p .f1; rest = p .rest; compared = p .compared + m }
+
+-- ---- all classes: the first that has a match, or the last; with a match in FIFO 0 its banks of FIFO 1 are left to search
+
+pub record Best (g : Filters) (v : List ℕ) (w : ℕ) (b : BestClass) : Type 0 where
+  pub within0 : Within (b .leading .f0)
+  pub within1 : Within (b .leading .f1)
+  pub few : b .leading .compared ≤ 448
+  pub hit0 : hitOf g F0 (b .leading .f0) ≡ firstHit 14 g v w (b .class) F0
+  pub rest : b .leading .f0 .0 < 128 → Rest g (b .class) (b .leading .rest)
+  pub accepted0 : b .leading .f0 .0 < 128
+      → better (hitOf g F0 (b .leading .f0)) (firstHit 14 g v w (b .class) F1) ≡ acceptance 14 g v w
+  pub compared0 : b .leading .f0 .0 < 128
+      → b .leading .compared
+      + length (upToFirst (takesFrame v w (b .class)) (ofBanks (triedAfter 14 g (b .class) (hitOf g F0 (b .leading .f0))) 14))
+      ≡ compared 14 g v w
+  pub accepted1 : 128 ≤ b .leading .f0 .0 → better Nothing (hitOf g F1 (b .leading .f1)) ≡ acceptance 14 g v w
+  pub compared1 : 128 ≤ b .leading .f0 .0 → b .leading .compared ≡ compared 14 g v w
+
+-- ---- the winner
 
 -- a winner: twice the filter's number, and one more in FIFO 1; 510 for none
 unfoldable pub winnerOf : Acceptance → WinningFilter
@@ -54,6 +110,14 @@ winnerOf Rejected = record { 0 = 510 }
 unfoldable pub acceptedBy : WinningFilter → Acceptance
 acceptedBy x = pick (leb 510 (x .0)) Rejected (pick (eqb (x .0 % 2) 0) (Into F0 (filterNumber (x .0 / 2))) (Into F1 (filterNumber (x .0 / 2))))
 
+-- the winner of the first matches in FIFO 0 and in FIFO 1, by their numbers, 255 for none
+unfoldable pub lower : ℕ → ℕ → WinningFilter
+lower x y = record { 0 = pick (ltb (2 * x) (2 * y + 1)) (2 * x) (2 * y + 1) }
+
 -- filters with these four words; a search does not look at FINIT
 abbrev pub filtersOf : ℕ → ℕ → ℕ → ℕ → Filters
 filtersOf m s f a = record { mode = m; scale = s; assignment = f; activation = a; finit = false }
+
+-- what a search gives: the winner, and how many filters it compared
+unfoldable pub resultOf : Filters → List ℕ → ℕ → SearchResult
+resultOf g v w = record { winner = winnerOf (acceptance 14 g v w); compared = compared 14 g v w }

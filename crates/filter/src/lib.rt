@@ -1,13 +1,16 @@
 // The filter that a frame passes: the filters of a bank, their numbers, and the search.
 // A word of `Filters` has a bit for each bank, `banks` has R1 and R2 of each bank in turn, w is the frame's identifier word.
 // n is the number of banks.
+ghost use mathlib.Core.Bool.{true, _&&_};
 ghost use mathlib.Core.Path.{_≡_};
 ghost use Prim.Native.Nat.{ℕ, _+_, _<_, _≤_};
-ghost use lib.Dec.{eqb};
+ghost use lib.Dec.{eqb, ltb};
+ghost use Rattle.model.specs.declared.Fifo.the-variants.{F1};
+ghost use Rattle.model.specs.declared.FilterClass.the-variants.{List32, Mask32, List16, Mask16};
 ghost use Rattle.model.specs.Base as base;
 ghost use Rattle.model.specs.Banks as banks;
 ghost use Rattle.model.specs.Banks.{firstWord, secondWord, shortWord};
-ghost use Rattle.model.specs.Search as search;
+ghost use Rattle.model.specs.Search as filtering;
 ghost use Rattle.filter.specs.Places as places;
 use bits::pick_u32;
 use model::Acceptance;
@@ -129,7 +132,27 @@ pub fn first_number(g: Filters, f: Fifo, b: Bank) -> FilterNumber
     first_number_of(g, f, Bank(i))
 }
 
-// ---- the search of one class in one FIFO
+// ---- one comparison
+
+// Whether a filter takes a frame, and how many filters have been compared with this one.
+struct Comparison {
+    takes: bool,
+    compared: u32,
+}
+
+// The search compares through this function alone, so that no comparison goes uncounted.
+fn compare(k: FilterClass, a: u32, b: u32, j: u32, w: u32, short: u32, compared: u32) -> Comparison
+    requires { ⌜ (short ≡ shortWord w) × (compared < 56) ⌝ }
+    ensures { λ r. ⌜ (r .takes ≡ banks.matches k a b j w) × (r .compared ≡ compared + 1) ⌝ }
+{
+    let next = compared + 1;
+    Comparison {
+        takes: takes(k, a, b, j, w, short),
+        compared: next,
+    }
+}
+
+// ---- the search of one class in some banks
 
 // The word with a 1 for each bank of the class.
 fn of_class(g: Filters, k: FilterClass) -> u32
@@ -146,83 +169,164 @@ fn of_class(g: Filters, k: FilterClass) -> u32
 // A place in the search: four times the bank's number and the filter's place in the bank; 128 stands for none.
 struct Place(u32);
 
-// The matching filter with the lowest number; `part` is the word of the banks that are searched, often none. The lowest
-// bank that is left comes next.
-fn first_place(banks: &[u32; 28], w: u32, short: u32, k: FilterClass, part: u32) -> Place
+struct FirstMatch {
+    place: Place,
+    compared: u32,
+}
+
+// The first match in the banks of the word `part`, often none. The lowest bank that is left comes next.
+fn first_match(banks: &[u32; 28], w: u32, short: u32, k: FilterClass, part: u32) -> FirstMatch
     requires { ⌜ short ≡ shortWord w ⌝ }
-    ensures { λ r. ⌜ places.Within r × ((g : Filters) (f : Fifo) → ((b : Bank) → b .0 < 32 → base.bit (b .0) part ≡ search.searched g k f b) → places.hitOf g f r ≡ search.firstHit 14 g (now (banks .entry)) w k f) ⌝ }
+    ensures { λ r. ⌜ places.FirstIn (now (banks .entry)) w k part r ⌝ }
 {
     let m = width(k);
+    let mut compared: u32 = 0;
     let mut left = part;
     'search: loop {
         let i = u32::trailing_zeros(left);
         if 14 <= i {
-            break Place(128);
+            break FirstMatch {
+                place: Place(128),
+                compared: compared,
+            };
         }
         let bank = Bank(i);
         let a = first_word(banks, bank);
         let b = second_word(banks, bank);
         let mut j: u32 = 0;
         while j < m {
-            if takes(k, a, b, j, w, short) {
-                break 'search Place(4 * i + j);
+            let c = compare(k, a, b, j, w, short, compared);
+            if c.takes {
+                let place = 4 * i + j;
+                break 'search FirstMatch {
+                    place: Place(place),
+                    compared: c.compared,
+                };
             }
+            compared = c.compared;
             j += 1;
         }
         left = left & !(1 << i);
     }
 }
 
-// ---- the winner
+// ---- the first match of a class, in FIFO 0 if it has one
 
-// The first matches of a class in FIFO 0 and in FIFO 1.
-struct Places {
+// The first match in FIFO 0; where it has none, the first in FIFO 1. `rest` are the banks of FIFO 1 that are left to search.
+struct Leading {
     f0: Place,
     f1: Place,
+    rest: u32,
+    compared: u32,
 }
 
-fn places_of(g: Filters, banks: &[u32; 28], w: u32, short: u32, k: FilterClass) -> Places
+fn leading_of(g: Filters, banks: &[u32; 28], w: u32, short: u32, k: FilterClass) -> Leading
     requires { ⌜ short ≡ shortWord w ⌝ }
-    ensures { λ r. ⌜ places.First g (now (banks .entry)) w k r ⌝ }
+    ensures { λ r. ⌜ places.Leads g (now (banks .entry)) w k r ⌝ }
 {
     let part = g.activation & of_class(g, k);
     if part == 0 {
-        return Places {
+        return Leading {
             f0: Place(128),
             f1: Place(128),
+            rest: 0,
+            compared: 0,
         };
     }
-    Places {
-        f0: first_place(banks, w, short, k, part & !g.assignment),
-        f1: first_place(banks, w, short, k, part & g.assignment),
+    let rest = part & g.assignment;
+    let x = first_match(banks, w, short, k, part & !g.assignment);
+    let f0 = x.place;
+    if f0.0 < 128 {
+        return Leading {
+            f0: f0,
+            f1: Place(128),
+            rest: rest,
+            compared: x.compared,
+        };
+    }
+    let y = first_match(banks, w, short, k, rest);
+    let f1 = y.place;
+    let compared = x.compared + y.compared;
+    Leading {
+        f0: Place(128),
+        f1: f1,
+        rest: 0,
+        compared: compared,
     }
 }
 
-fn any_place(p: Places) -> bool
+fn any_place(p: Leading) -> bool
     ensures { λ r. ⌜ r ≡ places.anyPlace p ⌝ }
 {
     (p.f0.0 < 128) | (p.f1.0 < 128)
 }
 
+// ---- the class that wins
+
+struct BestClass {
+    class: FilterClass,
+    leading: Leading,
+}
+
+// A class with the comparisons of those before it.
+fn counted(p: Leading, compared: u32) -> Leading
+    requires { ⌜ (p .compared ≤ 112) × (compared ≤ 336) ⌝ }
+    ensures { λ r. ⌜ r ≡ places.counted p compared ⌝ }
+{
+    let f0 = p.f0;
+    let f1 = p.f1;
+    let all = p.compared + compared;
+    Leading {
+        f0: f0,
+        f1: f1,
+        rest: p.rest,
+        compared: all,
+    }
+}
+
 // The first class that has a match wins, 32-bit before 16, list before mask.
-fn best_places(g: Filters, banks: &[u32; 28], w: u32) -> Places
+fn best_class(g: Filters, banks: &[u32; 28], w: u32, short: u32) -> BestClass
+    requires { ⌜ short ≡ shortWord w ⌝ }
     ensures { λ r. ⌜ places.Best g (now (banks .entry)) w r ⌝ }
 {
-    let short = short_word(w);
-    let a = places_of(g, banks, w, short, FilterClass::List32);
+    let a = leading_of(g, banks, w, short, FilterClass::List32);
     if any_place(a) {
-        return a;
+        return BestClass {
+            class: FilterClass::List32,
+            leading: a,
+        };
     }
-    let b = places_of(g, banks, w, short, FilterClass::Mask32);
+    let b = counted(
+        leading_of(g, banks, w, short, FilterClass::Mask32),
+        a.compared,
+    );
     if any_place(b) {
-        return b;
+        return BestClass {
+            class: FilterClass::Mask32,
+            leading: b,
+        };
     }
-    let c = places_of(g, banks, w, short, FilterClass::List16);
+    let c = counted(
+        leading_of(g, banks, w, short, FilterClass::List16),
+        b.compared,
+    );
     if any_place(c) {
-        return c;
+        return BestClass {
+            class: FilterClass::List16,
+            leading: c,
+        };
     }
-    places_of(g, banks, w, short, FilterClass::Mask16)
+    let d = counted(
+        leading_of(g, banks, w, short, FilterClass::Mask16),
+        c.compared,
+    );
+    BestClass {
+        class: FilterClass::Mask16,
+        leading: d,
+    }
 }
+
+// ---- FIFO 1 after FIFO 0's match
 
 // The number of the filter at a place, 255 for none.
 fn number_at(g: Filters, f: Fifo, p: Place) -> u32
@@ -236,20 +340,141 @@ fn number_at(g: Filters, f: Fifo, p: Place) -> u32
     first.0 as u32 + p.0 % 4
 }
 
+// How many numbers a bank takes: one, twice as many if it is a list, twice as many again if it has 16 bits.
+fn width_at(g: Filters, b: Bank) -> u32
+    requires { ⌜ b .0 < 14 ⌝ }
+    ensures { λ r. ⌜ r ≡ banks.width (banks.classOf g b) ⌝ }
+{
+    let list = (g.mode >> b.0) % 2;
+    let half = 1 - (g.scale >> b.0) % 2;
+    1 << (list + half)
+}
+
+// Of the banks of FIFO 1 in the word `part`, those whose first filter number is below n: the others can't win against
+// number n of FIFO 0. A bank has four filters at the most, so one below n / 4 needs no look.
+fn can_win(g: Filters, n: u32, part: u32) -> u32
+    requires { ⌜ (n ≤ 56) × ((b : Bank) → b .0 < 14 → base.bit (b .0) part ≡ true → banks.belongs F1 g b ≡ true) ⌝ }
+    ensures { λ r. ⌜ ((b : Bank) → b .0 < 14 → base.bit (b .0) r ≡ (base.bit (b .0) part && ltb (banks.firstNumber 14 g F1 b .0) n)) ⌝ }
+{
+    let sure = (n + 3) / 4;
+    if part >> sure == 0 {
+        return part;
+    }
+    let mut left = g.assignment;
+    let mut number: u32 = 0;
+    loop {
+        let i = u32::trailing_zeros(left);
+        if (14 <= i) | (n <= number) {
+            break part & !left;
+        }
+        number += width_at(g, Bank(i));
+        left = left & !(1 << i);
+    }
+}
+
+// The four classes by their names, so that each keeps a loop of its own.
+fn list32_match(banks: &[u32; 28], w: u32, short: u32, part: u32) -> FirstMatch
+    requires { ⌜ short ≡ shortWord w ⌝ }
+    ensures { λ r. ⌜ places.FirstIn (now (banks .entry)) w List32 part r ⌝ }
+{
+    first_match(banks, w, short, FilterClass::List32, part)
+}
+
+fn mask32_match(banks: &[u32; 28], w: u32, short: u32, part: u32) -> FirstMatch
+    requires { ⌜ short ≡ shortWord w ⌝ }
+    ensures { λ r. ⌜ places.FirstIn (now (banks .entry)) w Mask32 part r ⌝ }
+{
+    first_match(banks, w, short, FilterClass::Mask32, part)
+}
+
+fn list16_match(banks: &[u32; 28], w: u32, short: u32, part: u32) -> FirstMatch
+    requires { ⌜ short ≡ shortWord w ⌝ }
+    ensures { λ r. ⌜ places.FirstIn (now (banks .entry)) w List16 part r ⌝ }
+{
+    first_match(banks, w, short, FilterClass::List16, part)
+}
+
+fn mask16_match(banks: &[u32; 28], w: u32, short: u32, part: u32) -> FirstMatch
+    requires { ⌜ short ≡ shortWord w ⌝ }
+    ensures { λ r. ⌜ places.FirstIn (now (banks .entry)) w Mask16 part r ⌝ }
+{
+    first_match(banks, w, short, FilterClass::Mask16, part)
+}
+
+fn match_of_class(banks: &[u32; 28], w: u32, short: u32, k: FilterClass, part: u32) -> FirstMatch
+    requires { ⌜ short ≡ shortWord w ⌝ }
+    ensures { λ r. ⌜ places.FirstIn (now (banks .entry)) w k part r ⌝ }
+{
+    match k {
+        FilterClass::List32 => list32_match(banks, w, short, part),
+        FilterClass::Mask32 => mask32_match(banks, w, short, part),
+        FilterClass::List16 => list16_match(banks, w, short, part),
+        FilterClass::Mask16 => mask16_match(banks, w, short, part),
+    }
+}
+
+// ---- the winner
+
 // Twice the filter's number, and one more in FIFO 1, so that the lower filter number wins, and FIFO 0 where they are equal;
 // 510 where no filter matches.
 pub struct WinningFilter(pub u32);
 
+// The winner, and how many filters were compared to find it.
+pub struct SearchResult {
+    pub winner: WinningFilter,
+    pub compared: u32,
+}
+
+// Of the numbers of the first matches in FIFO 0 and in FIFO 1, 255 for none.
+fn lower(n0: u32, n1: u32) -> WinningFilter
+    requires { ⌜ (n0 ≤ 255) × (n1 ≤ 255) ⌝ }
+    ensures { λ r. ⌜ r ≡ places.lower n0 n1 ⌝ }
+{
+    let x = 2 * n0;
+    let y = 2 * n1 + 1;
+    WinningFilter(pick_u32(x < y, x, y))
+}
+
+// FIFO 0 has a match: the banks of FIFO 1 that can still win are searched.
+fn after_fifo0(g: Filters, banks: &[u32; 28], w: u32, short: u32, b: BestClass) -> SearchResult
+    requires { ⌜ (short ≡ shortWord w) × (places.Best g (now banks) w b × (b .leading .f0 .0 < 128)) ⌝ }
+    ensures { λ r. ⌜ r ≡ places.resultOf g (now (banks .entry)) w ⌝ }
+{
+    let p = b.leading;
+    let k = b.class;
+    let n0 = number_at(g, Fifo::F0, p.f0);
+    let x = 2 * n0;
+    let alone = SearchResult {
+        winner: WinningFilter(x),
+        compared: p.compared,
+    };
+    let rest = p.rest;
+    if rest == 0 {
+        return alone;
+    }
+    let part = can_win(g, n0, rest);
+    if part == 0 {
+        return alone;
+    }
+    let y = match_of_class(banks, w, short, k, part);
+    let n1 = number_at(g, Fifo::F1, y.place);
+    let compared = p.compared + y.compared;
+    SearchResult {
+        winner: lower(n0, n1),
+        compared: compared,
+    }
+}
+
 // Numbers, and not the filters' struct: this function stays a call, and what it is lent stays in memory.
-pub fn winner(
+pub fn search(
     mode: u32,
     scale: u32,
     assignment: u32,
     activation: u32,
     banks: &[u32; 28],
     w: u32,
-) -> WinningFilter
-    ensures { λ r. ⌜ r ≡ places.winnerOf (search.acceptance 14 (places.filtersOf mode scale assignment activation) (now (banks .entry)) w) ⌝ }
+) -> SearchResult
+    ensures { λ r. ⌜ r ≡ places.resultOf (places.filtersOf mode scale assignment activation) (now (banks .entry)) w ⌝ }
 {
     let g = Filters {
         mode: mode,
@@ -258,10 +483,32 @@ pub fn winner(
         activation: activation,
         finit: false,
     };
-    let p = best_places(g, banks, w);
-    let n0 = 2 * number_at(g, Fifo::F0, p.f0);
-    let n1 = 2 * number_at(g, Fifo::F1, p.f1) + 1;
-    WinningFilter(pick_u32(n0 < n1, n0, n1))
+    let short = short_word(w);
+    let b = best_class(g, banks, w, short);
+    let p = b.leading;
+    if p.f0.0 < 128 {
+        return after_fifo0(g, banks, w, short, b);
+    }
+    let n1 = number_at(g, Fifo::F1, p.f1);
+    SearchResult {
+        winner: lower(255, n1),
+        compared: p.compared,
+    }
+}
+
+// The winner alone, without the count.
+pub fn winner(
+    mode: u32,
+    scale: u32,
+    assignment: u32,
+    activation: u32,
+    banks: &[u32; 28],
+    w: u32,
+) -> WinningFilter
+    ensures { λ r. ⌜ r ≡ places.winnerOf (filtering.acceptance 14 (places.filtersOf mode scale assignment activation) (now (banks .entry)) w) ⌝ }
+{
+    let s = search(mode, scale, assignment, activation, banks, w);
+    s.winner
 }
 
 pub fn accepted_by(x: WinningFilter) -> Acceptance
@@ -279,7 +526,7 @@ pub fn accepted_by(x: WinningFilter) -> Acceptance
 
 // The FIFO that a frame goes to, and the filter that it passes.
 pub fn acceptance(g: Filters, banks: &[u32; 28], w: u32) -> Acceptance
-    ensures { λ r. ⌜ r ≡ search.acceptance 14 g (now (banks .entry)) w ⌝ }
+    ensures { λ r. ⌜ r ≡ filtering.acceptance 14 g (now (banks .entry)) w ⌝ }
 {
     accepted_by(winner(g.mode, g.scale, g.assignment, g.activation, banks, w))
 }

@@ -1,0 +1,163 @@
+-- The banks of FIFO 1 in the order of their first numbers: a walk that adds up their widths knows which lie below a number. Assumes nothing.
+use mathlib.Core.Path.{_≡_, refl, sym, ap, _∙_}
+use mathlib.Core.Bool.{Bool, true, false, not, _&&_, _||_}
+use mathlib.Core.Logic.{_⊎_, inl, inr}
+use Prim.Native.Nat.{ℕ, zero, suc, _+_, _-_, _*_, _/_, _%_, _^_, _≤_, _<_}
+use native.Mathlib.Nat.{le-refl}
+use native.Mathlib.Decide.{le-ind}
+use native.Mathlib.Omega.{arith}
+use borrow.Author.Tests.{leb-true, leb-false, lt-ltb, le-ltb}
+use lib.Bits.{bitAnd, and-le-l}
+use lib.Count.{trailingZeros}
+use lib.Dec.{eqb, ltb, leb}
+use lib.Pow.{shr-shr, shr-le}
+use Rattle.model.specs.Base.{pick, bit, sum}
+use Rattle.model.specs.Banks.{bank, classOf, classBy, width, belongs, share, numbersBelow, firstNumber}
+use Rattle.model.specs.declared.Filters.{Filters}
+use Rattle.model.specs.declared.Bank.{Bank}
+use Rattle.model.specs.declared.Fifo.{Fifo}
+use Rattle.model.specs.declared.Fifo.the-variants.{F0, F1}
+use Rattle.model.proofs.Digits.{for-digit}
+use Rattle.model.proofs.FirstHit.{lower, width-le}
+use Rattle.model.proofs.FilterNumbers.{numbers-below-le}
+use Rattle.model.proofs.LowestNumber.{sum-up}
+use Rattle.filter.proofs.BankWords.{and-bit, not-bit}
+use Rattle.filter.proofs.LeftBanks.{without, below-lowest, From, from-first, none-between, lowest-from, lowest-in, from-next}
+
+-- ---- the width of a bank from its two bits
+
+pub width-from-digits : (s m : ℕ) → s < 2 → m < 2 → 1 * 2 ^ (m + (1 - s)) % 2 ^ 32 ≡ width (classBy (eqb s 1) (eqb m 1))
+width-from-digits s m hs hm =
+    for-digit (λ (s : ℕ). 1 * 2 ^ (m + (1 - s)) % 2 ^ 32 ≡ width (classBy (eqb s 1) (eqb m 1)))
+    (for-digit (λ (m : ℕ). 1 * 2 ^ (m + (1 - 0)) % 2 ^ 32 ≡ width (classBy (eqb 0 1) (eqb m 1))) refl refl m hm)
+    (for-digit (λ (m : ℕ). 1 * 2 ^ (m + (1 - 1)) % 2 ^ 32 ≡ width (classBy (eqb 1 1) (eqb m 1))) refl refl m hm)
+    s hs
+
+-- ---- numbers go up with the banks
+
+sum-skip : (s : ℕ → ℕ) (i m : ℕ) → i ≤ m → ((j : ℕ) → i ≤ j → j < m → s j ≡ 0) → sum s m ≡ sum s i
+unfolding sum
+sum-skip s i m h = le-ind (λ (m : ℕ). ((j : ℕ) → i ≤ j → j < m → s j ≡ 0) → sum s m ≡ sum s i)
+    (λ e. refl)
+    (λ m l t e. omega (arith, e m l (omega arith), t (λ j p q. e j p (omega arith))))
+    m h
+
+pub numbers-up : (g : Filters) (f : Fifo) (i m : ℕ) → i ≤ m → numbersBelow f g i ≤ numbersBelow f g m
+numbers-up g f i m h = elim (lower i m) [
+  | inl l ↦ omega (arith, sum-up (λ (j : ℕ). share f g (bank j)) i m l)
+  | inr l ↦ let same : i ≡ m = omega arith in rw same (le-refl _)
+]
+
+pub first-number-of-bank : (g : Filters) (f : Fifo) (b : Bank) → b .0 < 14 → firstNumber 14 g f b .0 ≡ numbersBelow f g (b .0)
+unfolding firstNumber
+first-number-of-bank g f b h = rw (lt-ltb (b .0) 14 h)
+
+-- ---- two tests at once
+
+pub either : (i j m n : ℕ) → (leb i j || leb m n) ≡ true → (i ≤ j) ⊎ (m ≤ n)
+either i j m n = go (leb i j) refl
+  where
+    go : (t : Bool) → leb i j ≡ t → (t || leb m n) ≡ true → (i ≤ j) ⊎ (m ≤ n)
+    go true e h = inl (leb-true i j e)
+    go false e h = inr (leb-true m n h)
+
+pub neither : (i j m n : ℕ) → (leb i j || leb m n) ≡ false → (j < i) × (n < m)
+neither i j m n = go (leb i j) refl
+  where
+    go : (t : Bool) → leb i j ≡ t → (t || leb m n) ≡ false → (j < i) × (n < m)
+    go true e h = let z : _≡_ {A = ℕ} 0 1 = cc in absurd (omega arith)
+    go false e h = (leb-false i j e, leb-false m n h)
+
+-- ---- the walk
+
+-- y are the banks of FIFO 1 that are left; the others begin below number n, and take m numbers
+pub record Low (g : Filters) (n y m : ℕ) : Type 0 where
+  pub next : ℕ
+  pub within : next ≤ 14
+  pub fits : y < 2 ^ 32
+  pub from : From (g .assignment) next y
+  pub number : m ≡ numbersBelow F1 g next
+  pub low : (b : Bank) → b .0 < next → belongs F1 g b ≡ true → numbersBelow F1 g (b .0) < n
+
+pub none-low : (g : Filters) (n : ℕ) → g .assignment < 2 ^ 32 → Low g n (g .assignment) 0
+unfolding sum
+none-low g n h = record {
+  next = 0;
+  within = omega arith;
+  fits = h;
+  from = from-first (g .assignment);
+  number = refl;
+  low = λ b l. absurd (omega arith);
+}
+
+other-fifo : (g : Filters) (i : ℕ) → bit i (g .assignment) ≡ false → share F1 g (bank i) ≡ 0
+other-fifo g i e = rw e
+
+module _ (g : Filters) (n y m : ℕ) (s : Low g n y m) where
+  module _ (h : trailingZeros 32 y < 14) where
+    -- what the passed banks take is the first number of the lowest that is left
+    pub number-here : m ≡ numbersBelow F1 g (trailingZeros 32 y)
+    number-here =
+        s .number
+        ∙ sym
+        (sum-skip _ (s .next) (trailingZeros 32 y) (lowest-from (g .assignment) (s .next) y (s .from) (omega arith))
+        (λ j p q. other-fifo g j (none-between (g .assignment) (s .next) y (s .from) j p q (omega arith))))
+
+    -- if that is below n, this bank is passed too
+    pub one-low : m < n → Low g n (without y (trailingZeros 32 y)) (m + width (classOf g (bank (trailingZeros 32 y))))
+    unfolding sum
+    one-low l = record {
+      next = suc (trailingZeros 32 y);
+      within = omega arith;
+      fits = omega (arith, s .fits, and-le-l y ((2 ^ 32 - 1) - 1 * 2 ^ trailingZeros 32 y % 2 ^ 32));
+      from = from-next (g .assignment) (s .next) y (s .from) (omega arith);
+      number = rw (number-here, lowest-in (g .assignment) (s .next) y (s .from) (omega arith));
+      low = λ b p o. elim (lower (b .0) (s .next)) [
+        | inl q ↦ s .low b q o
+        | inr q ↦ elim (lower (b .0) (trailingZeros 32 y)) [
+          | inl r ↦ let none = none-between (g .assignment) (s .next) y (s .from) (b .0) q r (omega arith) in
+              let z : _≡_ {A = ℕ} 0 1 = cc in absurd (omega arith)
+          | inr r ↦ let same : b .0 ≡ trailingZeros 32 y = omega arith in rw same (omega (arith, number-here))
+        ]
+      ];
+    }
+
+  -- at the end the banks that are left don't begin below n
+  pub all-low : (14 ≤ trailingZeros 32 y) ⊎ (n ≤ m) → (x : ℕ)
+      → ((b : Bank) → b .0 < 14 → bit (b .0) x ≡ true → belongs F1 g b ≡ true)
+      → (b : Bank) → b .0 < 14 → bit (b .0) (bitAnd x ((2 ^ 32 - 1) - y)) ≡ (bit (b .0) x && ltb (firstNumber 14 g F1 b .0) n)
+  all-low end x own b h =
+      rw (and-bit (b .0) x ((2 ^ 32 - 1) - y), not-bit (b .0) y (omega arith) (s .fits), first-number-of-bank g F1 b h)
+      (go (bit (b .0) x) refl)
+    where
+      left-here : (14 ≤ trailingZeros 32 y) ⊎ (n ≤ m) → s .next ≤ b .0 → bit (b .0) y ≡ true → n ≤ numbersBelow F1 g (b .0)
+      left-here (inl l) p e = let none = below-lowest y (b .0) (omega arith) in let z : _≡_ {A = ℕ} 0 1 = cc in absurd (omega arith)
+      left-here (inr l) p e = omega (arith, numbers-up g F1 (s .next) (b .0) p, s .number)
+
+      go : (t : Bool) → bit (b .0) x ≡ t → (t && not (bit (b .0) y)) ≡ (t && ltb (numbersBelow F1 g (b .0)) n)
+      go false e = refl
+      go true e = elim (lower (b .0) (s .next)) [
+        | inl l ↦ rw (s .from .passed (b .0) l (omega arith), lt-ltb _ _ (s .low b l (own b h e)))
+        | inr l ↦ let here = s .from .left (b .0) l (omega arith) ∙ own b h e in rw (here, le-ltb _ _ (left-here end l here))
+      ]
+
+-- ---- banks that need no look
+
+no-high-bit : (x i j : ℕ) → x / 2 ^ i ≡ 0 → i ≤ j → bit j x ≡ false
+no-high-bit x i j e h =
+    let whole : j ≡ i + (j - i) = omega arith in
+    let none : x / 2 ^ j ≡ 0 =
+    ap (λ (d : ℕ). x / 2 ^ d) whole ∙ sym (shr-shr x i (j - i)) ∙ (let small = shr-le (x / 2 ^ i) (j - i) in omega arith) in
+    rw none
+
+-- a bank below n / 4 begins below number n
+pub surely-low : (g : Filters) (n x : ℕ) → x / 2 ^ ((n + 3) / 4) ≡ 0 → (b : Bank) → b .0 < 14
+    → bit (b .0) x ≡ (bit (b .0) x && ltb (firstNumber 14 g F1 b .0) n)
+surely-low g n x e b h = go (bit (b .0) x) refl
+  where
+    go : (t : Bool) → bit (b .0) x ≡ t → t ≡ (t && ltb (firstNumber 14 g F1 b .0) n)
+    go false d = refl
+    go true d = elim (lower (b .0) ((n + 3) / 4)) [
+      | inl l ↦ let low : numbersBelow F1 g (b .0) < n = omega (arith, numbers-below-le F1 g (b .0)) in rw (first-number-of-bank g F1 b h, lt-ltb (numbersBelow F1 g (b .0)) n low)
+      | inr l ↦ let none = no-high-bit x ((n + 3) / 4) (b .0) e l in let z : _≡_ {A = ℕ} 0 1 = cc in absurd (omega arith)
+    ]
