@@ -83,7 +83,7 @@ module _ (g : Filters) (v : List ℕ) (w : ℕ) (k : FilterClass) (x : FilterNum
         let up = numbers-up g F1 i j l in
         left-out j
         (le-ltb (firstNumber 14 g F1 (bank j) .0) (x .0)
-        (omega (arith, first-number-of-bank g F1 (bank i) (omega arith), first-number-of-bank g F1 (bank j) h)))
+        (omega (arith, first-number-of-bank 14 g F1 (bank i) (omega arith), first-number-of-bank 14 g F1 (bank j) h)))
   ]
 
   -- so the better of FIFO 0's match and what is found is the better one of both matches

@@ -28,7 +28,7 @@ pub length-of-bank : (b : Bank) (j : ℕ) → length (ofBank b j) ≡ j
 unfolding ofBank
 length-of-bank b j = length-row _ j ∙ sum-ones j
 
-sum-same : (s t : ℕ → ℕ) (n : ℕ) → ((i : ℕ) → i < n → s i ≡ t i) → sum s n ≡ sum t n
+pub sum-same : (s t : ℕ → ℕ) (n : ℕ) → ((i : ℕ) → i < n → s i ≡ t i) → sum s n ≡ sum t n
 unfolding sum
 sum-same s t zero h = refl
 sum-same s t (suc n) h = omega (arith, sum-same s t n (λ i l. h i (omega arith)), h n (omega arith))
@@ -154,12 +154,19 @@ module _ (p : Candidate → Bool) (t : Bank → ℕ) where
         length-of-bank (bank i) j,
       )
 
--- a list that is cut is no longer
-pub cut-le : (p : Candidate → Bool) (l : List Candidate) → length (upToFirst p l) ≤ length l
-unfolding upToFirst
-cut-le p [] = le-refl 0
-cut-le p (c ∷ l) = step (p c) (cut-le p l)
+-- fewer banks, and no more is taken
+pub cut-prefix : (p : Candidate → Bool) (t : Bank → ℕ) (i n : ℕ) → i ≤ n
+    → length (upToFirst p (ofBanks t i)) ≤ length (upToFirst p (ofBanks t n))
+unfolding ofBanks row
+cut-prefix p t i n h =
+    le-ind (λ (m : ℕ). length (upToFirst p (ofBanks t i)) ≤ length (upToFirst p (ofBanks t m)))
+    (le-refl _)
+    (λ m l s. omega (arith, s, more (ofBanks t m) (ofBank (bank m) (t (bank m)))))
+    n h
   where
-    step : (b : Bool) → length (upToFirst p l) ≤ length l → suc (length (pick b [] (upToFirst p l))) ≤ suc (length l)
-    step true e = omega arith
-    step false e = omega arith
+    more : (l m : List Candidate) → length (upToFirst p l) ≤ length (upToFirst p (l ++ m))
+    more l m = go (any p l) refl
+      where
+        go : (b : Bool) → any p l ≡ b → length (upToFirst p l) ≤ length (upToFirst p (l ++ m))
+        go true e = rw (cut-before p l m e) (le-refl _)
+        go false e = rw (cut-later p l m e, uncut p l e, length-append l (upToFirst p m)) (omega arith)

@@ -32,6 +32,7 @@ use Rattle.filter.specs.declared.FirstMatch.{FirstMatch}
 use Rattle.filter.specs.declared.Leading.{Leading}
 use Rattle.filter.proofs.BankWords.{no-bit, searched-bit}
 use Rattle.filter.proofs.Candidates.{of-banks-same, of-banks-skip}
+use Rattle.filter.proofs.Comparing.{length-compared, compared-in-both}
 use Rattle.filter.proofs.Passed.{no-match}
 
 -- ---- the filter at a place, or none
@@ -86,19 +87,6 @@ module _ (g : Filters) (v : List ℕ) (w : ℕ) (k : FilterClass) where
     s .compared ∙ ap (λ (l : List Candidate). length (upToFirst (takesFrame v w k) l)) (of-banks-same _ _ 14 (among-tried f x e)),
   )
 
-  length-compared : length (comparedIn 14 g v w k)
-      ≡ length (upToMatch 14 g v w k F0)
-      + length (upToFirst (takesFrame v w k) (ofBanks (triedAfter 14 g k (firstHit 14 g v w k F0)) 14))
-  unfolding comparedIn
-  length-compared =
-      length-append (upToMatch 14 g v w k F0) (upToFirst (takesFrame v w k) (ofBanks (triedAfter 14 g k (firstHit 14 g v w k F0)) 14))
-
-  -- without a match in FIFO 0, FIFO 1 is compared up to its own
-  pub compared-in-both : firstHit 14 g v w k F0 ≡ Nothing
-      → length (comparedIn 14 g v w k) ≡ length (upToMatch 14 g v w k F0) + length (upToMatch 14 g v w k F1)
-  unfolding triedAfter upToMatch
-  compared-in-both e = length-compared ∙ rw e
-
   -- where no active bank is of the class; x is the word of the banks of the class
   module _ (x : ℕ) (e : (b : Bank) → b .0 < 32 → bit (b .0) x ≡ eqb (rank (classOf g b)) (rank k)) (ha : g .assignment < 2 ^ 32)
       (z : bitAnd (g .activation) x ≡ 0) where
@@ -112,12 +100,12 @@ module _ (g : Filters) (v : List ℕ) (w : ℕ) (k : FilterClass) where
     pub none-compared : length (comparedIn 14 g v w k) ≡ 0
     unfolding upToMatch
     none-compared =
-        compared-in-both (none-of-class F0)
+        compared-in-both 14 g v w k (none-of-class F0)
         ∙ omega (arith, nothing-compared g v w k F0 (tried g k F0) (none-tried F0), nothing-compared g v w k F1 (tried g k F1) (none-tried F1))
 
 -- ---- the class that wins
 
-into-any : (x : FilterNumber) (e : Hit) → isInto (better (Filter x) e) ≡ true
+pub into-any : (x : FilterNumber) (e : Hit) → isInto (better (Filter x) e) ≡ true
 into-any x Nothing = refl
 into-any x (Filter y) = go (ltb (y .0) (x .0))
   where
@@ -191,7 +179,7 @@ module _ (g : Filters) (v : List ℕ) (w : ℕ) where
         hit0 = h .hit0;
         rest = h .rest;
         accepted0 = λ f. rw (h .hit0) decided;
-        compared0 = λ f. rw (h .hit0) (omega (arith, all-counted, length-compared g v w k, h .compared0 f));
+        compared0 = λ f. rw (h .hit0) (omega (arith, all-counted, length-compared 14 g v w k, h .compared0 f));
         accepted1 = λ f. rw (h .hit1 f, ← (sym (h .hit0) ∙ hit-none g F0 (p .f0) f)) decided;
         compared1 = λ f. omega (arith, all-counted, h .compared1 f);
       }

@@ -2,8 +2,10 @@ pub mod After
 pub mod BankWords
 pub mod Candidates
 pub mod Classes
+pub mod Comparing
 pub mod LeftBanks
 pub mod Numbered
 pub mod Passed
+pub mod Rule
 pub mod SideBySide
 pub mod Winners

@@ -48,9 +48,9 @@ numbers-up g f i m h = elim (lower i m) [
   | inr l ↦ let same : i ≡ m = omega arith in rw same (le-refl _)
 ]
 
-pub first-number-of-bank : (g : Filters) (f : Fifo) (b : Bank) → b .0 < 14 → firstNumber 14 g f b .0 ≡ numbersBelow f g (b .0)
+pub first-number-of-bank : (n : ℕ) (g : Filters) (f : Fifo) (b : Bank) → b .0 < n → firstNumber n g f b .0 ≡ numbersBelow f g (b .0)
 unfolding firstNumber
-first-number-of-bank g f b h = rw (lt-ltb (b .0) 14 h)
+first-number-of-bank n g f b h = rw (lt-ltb (b .0) n h)
 
 -- ---- two tests at once
 
@@ -127,7 +127,7 @@ module _ (g : Filters) (n y m : ℕ) (s : Low g n y m) where
       → ((b : Bank) → b .0 < 14 → bit (b .0) x ≡ true → belongs F1 g b ≡ true)
       → (b : Bank) → b .0 < 14 → bit (b .0) (bitAnd x ((2 ^ 32 - 1) - y)) ≡ (bit (b .0) x && ltb (firstNumber 14 g F1 b .0) n)
   all-low end x own b h =
-      rw (and-bit (b .0) x ((2 ^ 32 - 1) - y), not-bit (b .0) y (omega arith) (s .fits), first-number-of-bank g F1 b h)
+      rw (and-bit (b .0) x ((2 ^ 32 - 1) - y), not-bit (b .0) y (omega arith) (s .fits), first-number-of-bank 14 g F1 b h)
       (go (bit (b .0) x) refl)
     where
       left-here : (14 ≤ trailingZeros 32 y) ⊎ (n ≤ m) → s .next ≤ b .0 → bit (b .0) y ≡ true → n ≤ numbersBelow F1 g (b .0)
@@ -158,6 +158,6 @@ surely-low g n x e b h = go (bit (b .0) x) refl
     go : (t : Bool) → bit (b .0) x ≡ t → t ≡ (t && ltb (firstNumber 14 g F1 b .0) n)
     go false d = refl
     go true d = elim (lower (b .0) ((n + 3) / 4)) [
-      | inl l ↦ let low : numbersBelow F1 g (b .0) < n = omega (arith, numbers-below-le F1 g (b .0)) in rw (first-number-of-bank g F1 b h, lt-ltb (numbersBelow F1 g (b .0)) n low)
+      | inl l ↦ let low : numbersBelow F1 g (b .0) < n = omega (arith, numbers-below-le F1 g (b .0)) in rw (first-number-of-bank 14 g F1 b h, lt-ltb (numbersBelow F1 g (b .0)) n low)
       | inr l ↦ let none = no-high-bit x ((n + 3) / 4) (b .0) e l in let z : _≡_ {A = ℕ} 0 1 = cc in absurd (omega arith)
     ]

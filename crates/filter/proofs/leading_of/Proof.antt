@@ -8,7 +8,8 @@ use Rattle.model.specs.declared.Fifo.the-variants.{F0, F1}
 use Rattle.model.specs.declared.Hit.the-variants.{Nothing}
 use Rattle.filter.specs.Places.{hitOf}
 use Rattle.filter.proofs.BankWords.{searched-bit}
-use Rattle.filter.proofs.Classes.{hit-none, found-in, compared-in-both, none-of-class, none-compared}
+use Rattle.filter.proofs.Classes.{hit-none, found-in, none-of-class, none-compared}
+use Rattle.filter.proofs.Comparing.{compared-in-both}
 use Rattle.filter.proofs.leading_of.Statement.{statement}
 use Rattle.filter.proofs.leading_of.Tie as tie
 
@@ -77,7 +78,7 @@ returns-3 c =
       rest = λ h. absurd (omega arith);
       compared0 = λ h. absurd (omega arith);
       hit1 = λ h. in1 .0;
-      compared1 = λ h. omega (arith, compared-in-both (args .g) _ _ (args .k) none, in0 .1, in1 .1);
+      compared1 = λ h. omega (arith, compared-in-both 14 (args .g) _ _ (args .k) none, in0 .1, in1 .1);
     }
 
 pub leading-of-spec : {M : Type 1} → statement M
