@@ -91,7 +91,8 @@ fn generated(name: &str, kind: Kind, seed: u64, records: u64) -> Case {
 /// The other kinds, many requests, and broken scripts.
 fn special_cases(seeds: u64, records: u64) -> Vec<Case> {
     let mut cases = Vec::new();
-    for (name, kind) in KINDS.into_iter().filter(|&(_, kind)| kind != Kind::Mix && kind != Kind::Requests) {
+    let left_out = |kind: Kind| matches!(kind, Kind::Mix | Kind::Requests | Kind::Search(_));
+    for (name, kind) in KINDS.into_iter().filter(|&(_, kind)| !left_out(kind)) {
         cases.extend((1..=seeds).map(|seed| generated(name, kind, seed, records)));
     }
     let broken = |index| Case::new(format!("malformed seed 1 file {index}"), broken_script(1, index));
