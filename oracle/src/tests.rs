@@ -513,8 +513,8 @@ fn list_of_comparisons_has_the_winner_of_the_search() {
         for identifier in SOUGHT {
             let list = comparisons::in_order(&filters, identifier);
             let winner = comparisons::winner(&list);
-            let hit = filters.search(identifier);
-            assert_eq!(winner.map(|filter| (filter.number, filter.fifo)), hit.map(|hit| (hit.number as usize, hit.fifo)));
+            let hit = winner.map(|filter| Hit { number: filter.number as u8, fifo: filter.fifo });
+            assert_eq!(hit, filters.search(identifier));
             let (compared, bound) = (comparisons::compared(&list), comparisons::bound(&list));
             assert_eq!(compared, walk(&filters, identifier));
             assert!(compared <= bound && bound <= list.len());
