@@ -379,17 +379,8 @@ fn narrow_list(narrow: u16, r1: u32, r2: u32) -> Option<u8> {
     if made(Mistake::LowHalvesFirst) {
         return first_of([low(r1), low(r2), high(r1), high(r2)].map(equals));
     }
-    // All four at once: the lowest top bit left belongs to the lowest half that is 0.
-    let apart = (r1 as u64 | (r2 as u64) << 32) ^ narrow as u64 * EACH_HALF;
-    let top_bits = apart.wrapping_sub(EACH_HALF) & !apart & EACH_HALF << 15;
-    if top_bits == 0 {
-        return None;
-    }
-    Some((top_bits.trailing_zeros() / 16) as u8)
+    first_of([low(r1), high(r1), low(r2), high(r2)].map(equals))
 }
-
-/// 1 in each of the four halves of a bank.
-const EACH_HALF: u64 = 0x0001_0001_0001_0001;
 
 /// In each word the high half is the mask over the identifier in the low half.
 fn narrow_mask(narrow: u16, r1: u32, r2: u32) -> Option<u8> {

@@ -73,6 +73,9 @@ pub struct Lesson {
 #[derive(Clone, Copy, PartialEq, Eq, Debug)]
 enum Sought {
     First,
+    /// The last one of bank 12.
+    Late,
+    /// The last one of bank 13.
     Last,
     Any,
     None,
@@ -97,7 +100,7 @@ impl Lesson {
 const LESSON_IDENTIFIERS: u32 = 0x100;
 const LESSON_FILTERS: u32 = 4 * BANKS as u32;
 
-pub const KINDS: [(&str, Kind); 24] = [
+pub const KINDS: [(&str, Kind); 25] = [
     ("mix", Kind::Mix),
     ("transmit", Kind::Transmit),
     ("filters", Kind::Filters),
@@ -118,6 +121,7 @@ pub const KINDS: [(&str, Kind); 24] = [
     ("search-one-any", Lesson::one_fifo(Sought::Any)),
     ("search-one-none", Lesson::one_fifo(Sought::None)),
     ("search-both-first", Lesson::both_fifos(Sought::First)),
+    ("search-both-late", Lesson::both_fifos(Sought::Late)),
     ("search-both-last", Lesson::both_fifos(Sought::Last)),
     ("search-both-any", Lesson::both_fifos(Sought::Any)),
     ("search-both-none", Lesson::both_fifos(Sought::None)),
@@ -1441,6 +1445,7 @@ impl Generator {
     fn lesson_identifier(&mut self, sought: Sought) -> u32 {
         match sought {
             Sought::First => LESSON_IDENTIFIERS,
+            Sought::Late => LESSON_IDENTIFIERS + LESSON_FILTERS - 5,
             Sought::Last => LESSON_IDENTIFIERS + LESSON_FILTERS - 1,
             Sought::Any => LESSON_IDENTIFIERS + self.rng.below(LESSON_FILTERS as u64) as u32,
             Sought::None => {
