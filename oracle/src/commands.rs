@@ -1,11 +1,12 @@
 //! The subcommands.
 
-use crate::requests::Requests;
+use crate::comparisons::{self, Search};
 use crate::controller::Controller;
 use crate::generate::{generate, Kind, KINDS};
 use crate::malformed;
 use crate::probe::MISTAKES;
 use crate::race;
+use crate::requests::Requests;
 use crate::script::{self, decode, Step, REPLY_LENGTH};
 use crate::shrink;
 use crate::USAGE;
@@ -32,6 +33,14 @@ pub fn run(words: &[&str]) -> Status {
         ["check", options @ ..] => {
             choose_variant(options)?;
             check()
+        }
+        ["compared", "--bound", options @ ..] => {
+            choose_variant(options)?;
+            list_searches(|search| search.bound)
+        }
+        ["compared", options @ ..] => {
+            choose_variant(options)?;
+            list_searches(|search| search.compared)
         }
         ["generate", seed, records] => write_generated(seed, records, "mix"),
         ["generate", seed, records, kind] => write_generated(seed, records, kind),
@@ -189,6 +198,29 @@ fn check() -> Status {
     output.write(&replies);
     eprintln!("{record} records, {} requests accepted, {} ended", requests.accepted, requests.ended);
     Ok(status)
+}
+
+/// One line for each search, with its record's number from 1.
+fn list_searches(count: impl Fn(Search) -> usize) -> Status {
+    let script = standard_input()?;
+    let mut lines = format!("{:>11}{:>11}\n", "record", "compared");
+    let (mut searches, mut sum, mut most) = (0, 0, 0);
+    let stop = comparisons::replay(&script, |search| {
+        let compared = count(search);
+        lines += &format!("{:>11}{:>11}\n", search.record + 1, compared);
+        searches += 1;
+        sum += compared;
+        most = most.max(compared);
+    });
+    lines += &format!("{searches} searches, {sum} filters compared, {most} at most\n");
+    Output::new()?.write(lines.as_bytes());
+    match stop {
+        Some((record, place)) => {
+            say_unreadable(&script[place..], record, place);
+            Ok(UNREADABLE_RECORD)
+        }
+        None => Ok(READ_TO_THE_END),
+    }
 }
 
 /// What a read of TSR would give.

@@ -261,6 +261,13 @@ impl Controller {
         self.btr & btr::SILM != 0
     }
 
+    /// The identifier word that a good own end would pass through the filters.
+    pub fn loopback_word(&self) -> Option<u32> {
+        let x = self.transmitter.on_wire()?;
+        let passes = self.is_loopback() && !self.filters.initializing;
+        passes.then(|| self.transmitter.mailbox(x).frame().identifier)
+    }
+
     pub fn is_bus_off(&self) -> bool {
         let limit = match () {
             () if made(Mistake::BusOffAt255) => TEC_LIMIT - 1,

@@ -35,7 +35,8 @@ pub fn pass(file: &str, line: u32) {
 /// Runs scripts of all kinds, or of one, and some broken ones.
 pub fn report(seeds: u64, records: u64, only: Option<Kind>) -> Result<u8, String> {
     let mut meetings = Meetings::expected();
-    let chosen = |kind: Kind| only.map_or(kind != Kind::Requests, |only| only == kind);
+    let left_out = |kind: Kind| matches!(kind, Kind::Requests | Kind::Search(_));
+    let chosen = |kind: Kind| only.map_or(!left_out(kind), |only| only == kind);
     for (_, kind) in KINDS.into_iter().filter(|&(_, kind)| chosen(kind)) {
         for seed in 1..=seeds {
             run(&generate(seed, records, kind), &mut meetings);

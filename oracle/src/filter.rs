@@ -3,6 +3,7 @@
 use crate::here;
 use crate::probe::{made, Mistake};
 use crate::registers::{identifier, BANKS, FIFOS, FILTER_WORD};
+use std::num::NonZeroU16;
 
 /// The four classes of filters, best first.
 #[derive(Clone, Copy, PartialEq, Eq, Debug)]
@@ -14,6 +15,9 @@ pub enum Class {
 }
 
 const CLASSES: [Class; 4] = [Class::WideList, Class::WideMask, Class::NarrowList, Class::NarrowMask];
+
+/// Places for banks: as many as a set of banks has bits, so that no place is out of range.
+const SLOTS: usize = u16::BITS as usize;
 
 /// A filter that took a frame: its number within its FIFO, and that FIFO.
 /// The order of the fields is the order of precedence within a class.
@@ -35,9 +39,9 @@ pub struct Filters {
     assignment: u32,
     /// FA1R.
     activation: u32,
-    values: [[u32; 2]; BANKS],
+    values: [[u32; 2]; SLOTS],
     /// The number of each bank's first filter; follows from mode, scale and assignment.
-    first_number: [u8; BANKS],
+    first_number: [u8; SLOTS],
 }
 
 impl Filters {
@@ -48,8 +52,8 @@ impl Filters {
             scale: 0,
             assignment: 0,
             activation: 0,
-            values: [[0; 2]; BANKS],
-            first_number: [0; BANKS],
+            values: [[0; 2]; SLOTS],
+            first_number: [0; SLOTS],
         };
         filters.number_banks();
         filters
@@ -131,37 +135,59 @@ impl Filters {
         }
     }
 
-    /// The active banks of a class, as a set of bits.
-    fn active_banks(&self, class: Class) -> u32 {
-        let searched = match () {
+    /// The banks that are searched, as a set of bits.
+    fn active_banks(&self) -> u32 {
+        match () {
             () if made(Mistake::InactiveBanksSearched) => FILTER_WORD,
             () if made(Mistake::FilterWordsHave28Banks) => self.activation & FILTER_WORD,
             () => self.activation,
-        };
-        searched
-            & match class {
-                Class::WideList => self.scale & self.mode,
-                Class::WideMask => self.scale & !self.mode,
-                Class::NarrowList => !self.scale & self.mode,
-                Class::NarrowMask => !self.scale & !self.mode,
-            }
+        }
+    }
+
+    fn banks_of(&self, class: Class) -> u32 {
+        match class {
+            Class::WideList => self.scale & self.mode,
+            Class::WideMask => self.scale & !self.mode,
+            Class::NarrowList => !self.scale & self.mode,
+            Class::NarrowMask => !self.scale & !self.mode,
+        }
     }
 
     /// The filter that takes a frame with this identifier word: of all active
     /// filters that match, the best class, then the lowest number, then FIFO 0.
     pub fn search(&self, identifier: u32) -> Option<Hit> {
-        let [first, second, third, fourth] = search_order();
-        let hit = self
-            .hit_of_class(first, identifier)
-            .or_else(|| self.hit_of_class(second, identifier))
-            .or_else(|| self.hit_of_class(third, identifier))
-            .or_else(|| self.hit_of_class(fourth, identifier));
+        let hit = self.first_class_hit(identifier);
         if hit.is_some() {
             here!();
         } else {
             here!();
         }
         hit
+    }
+
+    /// The best hit of the first class that has one.
+    #[inline(always)]
+    fn first_class_hit(&self, identifier: u32) -> Option<Hit> {
+        if self.active_banks() == 0 {
+            here!();
+            return None;
+        }
+        if made(Mistake::Fifo0OverAllClassesFirst) {
+            if let Some(class) = self.first_class_of_fifo_0(identifier) {
+                return self.hit_of_class(class, identifier);
+            }
+        }
+        let [first, second, third, fourth] = search_order();
+        if let Some(hit) = self.hit_of_class(first, identifier) {
+            return Some(hit);
+        }
+        if let Some(hit) = self.hit_of_class(second, identifier) {
+            return Some(hit);
+        }
+        if let Some(hit) = self.hit_of_class(third, identifier) {
+            return Some(hit);
+        }
+        self.hit_of_class(fourth, identifier)
     }
 
     #[inline(always)]
@@ -175,31 +201,102 @@ impl Filters {
         }
     }
 
-    /// The best hit among the active banks of one class. `first_match` gives
-    /// the place within its bank of the first filter that matches.
-    #[inline]
+    /// The best hit among the active banks of one class: FIFO 0 first, then
+    /// the banks of FIFO 1 that can still win. `first_match` gives the place
+    /// within its bank of the first filter that matches.
+    #[inline(always)]
     fn best_hit(&self, class: Class, first_match: impl Fn(u32, u32) -> Option<u8> + Copy) -> Option<Hit> {
-        let (hit, later) = self.first_hit(self.active_banks(class), first_match)?;
-        // Later banks of the same FIFO have higher numbers.
-        let of_other_fifo = later & if hit.fifo == 0 { self.assignment } else { !self.assignment };
-        match self.first_hit(of_other_fifo, first_match) {
-            Some((other, _)) => Some(better(hit, other)),
-            None => Some(hit),
+        let banks = self.active_banks() & self.banks_of(class);
+        if banks == 0 {
+            return None;
+        }
+        let (of_fifo_0, of_fifo_1) = (banks & !self.assignment, banks & self.assignment);
+        match self.first_hit(0, of_fifo_0, |_| true, first_match) {
+            Some(hit) => match self.first_hit(1, of_fifo_1, |bank| self.can_win(bank, hit), first_match) {
+                Some(other) => Some(self.better(hit, other)),
+                None => Some(hit),
+            },
+            None => self.first_hit(1, of_fifo_1, |_| true, first_match),
         }
     }
 
-    /// The hit of the lowest of these banks that has one, and the banks above it.
-    #[inline]
-    fn first_hit(&self, mut banks: u32, first_match: impl Fn(u32, u32) -> Option<u8>) -> Option<(Hit, u32)> {
-        while banks != 0 {
-            let bank = banks.trailing_zeros() as usize;
-            banks &= banks - 1;
+    /// The hit of the lowest of these banks of a FIFO that has one, up to the
+    /// first that can't win.
+    #[inline(always)]
+    fn first_hit(
+        &self,
+        fifo: usize,
+        banks: u32,
+        can_win: impl Fn(usize) -> bool,
+        first_match: impl Fn(u32, u32) -> Option<u8>,
+    ) -> Option<Hit> {
+        let mut banks = banks as u16;
+        while let Some(left) = NonZeroU16::new(banks) {
+            let bank = left.trailing_zeros() as usize;
+            if !can_win(bank) {
+                here!();
+                return None;
+            }
             let [r1, r2] = self.values[bank];
             if let Some(position) = first_match(r1, r2) {
-                return Some((Hit { number: self.first_number[bank] + position, fifo: self.fifo_of(bank) }, banks));
+                return Some(Hit { number: self.first_number[bank] + position, fifo });
             }
+            banks &= banks - 1;
         }
         None
+    }
+
+    /// Can a filter of this bank of FIFO 1 have a lower number than FIFO 0's
+    /// hit? If not, none of a higher bank can either.
+    #[inline(always)]
+    fn can_win(&self, bank: usize, hit: Hit) -> bool {
+        match () {
+            () if made(Mistake::Fifo1NotSearchedAfterMatch) => false,
+            () if made(Mistake::LeftOutByBankNumber) => bank < self.bank_of(hit),
+            () if made(Mistake::LeftOutByLastNumber) => {
+                self.first_number[bank] + self.class_of(bank).filters_per_bank() - 1 < hit.number
+            }
+            () if made(Mistake::Fifo1WinsTies) => self.first_number[bank] <= hit.number,
+            () if made(Mistake::LowerBankBeforeLowerNumber) => true,
+            () => self.first_number[bank] < hit.number,
+        }
+    }
+
+    /// Of two hits of one class, the first in FIFO 0, the other in FIFO 1.
+    #[inline(always)]
+    fn better(&self, hit: Hit, other: Hit) -> Hit {
+        if made(Mistake::Fifo0BeforeLowerNumber) {
+            return hit;
+        }
+        if made(Mistake::Fifo1WinsTies) && other.number == hit.number {
+            return other;
+        }
+        if made(Mistake::LowerBankBeforeLowerNumber) {
+            return if self.bank_of(other) < self.bank_of(hit) { other } else { hit };
+        }
+        if other.number == hit.number {
+            here!();
+        } else if other.number < hit.number {
+            here!();
+        } else {
+            here!();
+        }
+        hit.min(other)
+    }
+}
+
+/// What only a mistake needs.
+impl Filters {
+    /// The first class in which FIFO 0 has a match.
+    fn first_class_of_fifo_0(&self, identifier: u32) -> Option<Class> {
+        let of_fifo_0 = Filters { activation: self.activation & !self.assignment, ..self.clone() };
+        CLASSES.into_iter().find(|&class| of_fifo_0.hit_of_class(class, identifier).is_some())
+    }
+
+    /// The highest bank of the FIFO that doesn't start above the number.
+    fn bank_of(&self, hit: Hit) -> usize {
+        let reaches = |bank: &usize| self.fifo_of(*bank) == hit.fifo && self.first_number[*bank] <= hit.number;
+        (0..BANKS).rev().find(reaches).unwrap_or(0)
     }
 }
 
@@ -220,28 +317,10 @@ fn search_order() -> [Class; 4] {
     if made(Mistake::ListsOfBothScalesFirst) {
         return [Class::WideList, Class::NarrowList, Class::WideMask, Class::NarrowMask];
     }
+    if made(Mistake::LastClassWins) {
+        return [Class::NarrowMask, Class::NarrowList, Class::WideMask, Class::WideList];
+    }
     CLASSES
-}
-
-/// Of two hits of one class in different FIFOs; `other` is of the lower bank.
-fn better(other: Hit, hit: Hit) -> Hit {
-    if made(Mistake::Fifo0BeforeLowerNumber) {
-        return if other.fifo < hit.fifo { other } else { hit };
-    }
-    if made(Mistake::Fifo1WinsTies) && other.number == hit.number {
-        return if other.fifo > hit.fifo { other } else { hit };
-    }
-    if made(Mistake::LowerBankBeforeLowerNumber) {
-        return other;
-    }
-    if other.number == hit.number {
-        here!();
-    } else if other.number < hit.number {
-        here!();
-    } else {
-        here!();
-    }
-    other.min(hit)
 }
 
 /// The 16-bit form of an identifier word: the top 11 bits, RTR, IDE, EXID 17 to 15.
@@ -293,14 +372,14 @@ fn wide_mask(wide: u32, r1: u32, r2: u32) -> Option<u8> {
 
 /// Four identifiers: R1 before R2, low half before high.
 fn narrow_list(narrow: u16, r1: u32, r2: u32) -> Option<u8> {
-    let [a, b, c, d] = [narrow == low(r1), narrow == high(r1), narrow == low(r2), narrow == high(r2)];
+    let equals = |half: u16| half == narrow;
     if made(Mistake::HighHalfBeforeLow) {
-        return first_of([b, a, d, c]);
+        return first_of([high(r1), low(r1), high(r2), low(r2)].map(equals));
     }
     if made(Mistake::LowHalvesFirst) {
-        return first_of([a, c, b, d]);
+        return first_of([low(r1), low(r2), high(r1), high(r2)].map(equals));
     }
-    first_of([a, b, c, d])
+    first_of([low(r1), high(r1), low(r2), high(r2)].map(equals))
 }
 
 /// In each word the high half is the mask over the identifier in the low half.

@@ -3,7 +3,7 @@
 
 use crate::controller::{Answer, Controller, Mode};
 use crate::fifo::Frame;
-use crate::registers::{btr, ier, mcr, BANKS, FIFOS, MAILBOXES};
+use crate::registers::{btr, ier, mcr, BANKS, FIFOS, FILTER_WORD, MAILBOXES};
 use crate::rng::Rng;
 use crate::script::Step;
 
@@ -56,9 +56,51 @@ pub enum Kind {
     RegistersOnly,
     RegistersAccepted,
     MixInterrupts,
+    Search(Lesson),
 }
 
-pub const KINDS: [(&str, Kind); 15] = [
+/// A lesson with 56 filters, all banks 16-bit lists, in which only frames come.
+#[derive(Clone, Copy, PartialEq, Eq, Debug)]
+pub struct Lesson {
+    /// FFA1R.
+    assignment: u32,
+    /// FA1R.
+    activation: u32,
+    sought: Sought,
+}
+
+/// The filter that a lesson's frames match.
+#[derive(Clone, Copy, PartialEq, Eq, Debug)]
+enum Sought {
+    First,
+    /// The last one of bank 12.
+    Late,
+    /// The last one of bank 13.
+    Last,
+    Any,
+    None,
+}
+
+impl Lesson {
+    const fn one_fifo(sought: Sought) -> Kind {
+        Kind::Search(Lesson { assignment: 0, activation: FILTER_WORD, sought })
+    }
+
+    /// Even banks in FIFO 0, odd ones in FIFO 1.
+    const fn both_fifos(sought: Sought) -> Kind {
+        Kind::Search(Lesson { assignment: 0x2AAA, activation: FILTER_WORD, sought })
+    }
+
+    const fn inactive() -> Kind {
+        Kind::Search(Lesson { assignment: 0, activation: 0, sought: Sought::None })
+    }
+}
+
+/// The filters of a lesson take the standard identifiers from this one on.
+const LESSON_IDENTIFIERS: u32 = 0x100;
+const LESSON_FILTERS: u32 = 4 * BANKS as u32;
+
+pub const KINDS: [(&str, Kind); 25] = [
     ("mix", Kind::Mix),
     ("transmit", Kind::Transmit),
     ("filters", Kind::Filters),
@@ -74,6 +116,16 @@ pub const KINDS: [(&str, Kind); 15] = [
     ("registers-only", Kind::RegistersOnly),
     ("registers-accepted", Kind::RegistersAccepted),
     ("mix-interrupts", Kind::MixInterrupts),
+    ("search-one-first", Lesson::one_fifo(Sought::First)),
+    ("search-one-last", Lesson::one_fifo(Sought::Last)),
+    ("search-one-any", Lesson::one_fifo(Sought::Any)),
+    ("search-one-none", Lesson::one_fifo(Sought::None)),
+    ("search-both-first", Lesson::both_fifos(Sought::First)),
+    ("search-both-late", Lesson::both_fifos(Sought::Late)),
+    ("search-both-last", Lesson::both_fifos(Sought::Last)),
+    ("search-both-any", Lesson::both_fifos(Sought::Any)),
+    ("search-both-none", Lesson::both_fifos(Sought::None)),
+    ("search-inactive", Lesson::inactive()),
 ];
 
 /// The kinds that `mix` goes through.
@@ -114,6 +166,7 @@ pub fn generate(seed: u64, records: u64, kind: Kind) -> Vec<u8> {
         Kind::FramesOnly => generator.frames_only(),
         Kind::RegistersOnly | Kind::RegistersAccepted => generator.registers_only(),
         Kind::Mix | Kind::MixInterrupts => generator.mix(),
+        Kind::Search(lesson) => generator.lesson(lesson),
         kind => generator.one_kind(kind),
     }
     generator.script
@@ -275,6 +328,10 @@ impl Generator {
         if identifier & 4 == 0 {
             identifier &= 0xFFE0_0002;
         }
+        self.frame_with(identifier)
+    }
+
+    fn frame_with(&mut self, identifier: u32) -> Frame {
         Frame { identifier, length: self.length(), data: self.rng.next() }
     }
 
@@ -1356,6 +1413,49 @@ impl Generator {
         while !self.done() {
             let frame = self.frame();
             self.emit(Step::Frame(frame));
+        }
+    }
+
+    fn lesson(&mut self, lesson: Lesson) {
+        self.configure_lesson(lesson);
+        self.emit(Step::Write(at::MCR, 0));
+        self.emit(Step::Idle);
+        while !self.done() {
+            let identifier = self.lesson_identifier(lesson.sought);
+            let frame = self.frame_with(identifier << 21);
+            self.emit(Step::Frame(frame));
+        }
+    }
+
+    /// Each filter takes another standard data frame; they ascend from bank to bank.
+    fn configure_lesson(&mut self, lesson: Lesson) {
+        self.emit(Step::Write(at::FM1R, FILTER_WORD));
+        self.emit(Step::Write(at::FS1R, 0));
+        self.emit(Step::Write(at::FFA1R, lesson.assignment));
+        for bank in 0..BANKS {
+            for half in 0..2 {
+                let low = LESSON_IDENTIFIERS + 4 * bank as u32 + 2 * half as u32;
+                self.emit(Step::Write(at::bank(bank, half), low << 5 | (low + 1) << 21));
+            }
+        }
+        self.emit(Step::Write(at::FA1R, lesson.activation));
+        self.emit(Step::Write(at::FMR, 0));
+    }
+
+    fn lesson_identifier(&mut self, sought: Sought) -> u32 {
+        match sought {
+            Sought::First => LESSON_IDENTIFIERS,
+            Sought::Late => LESSON_IDENTIFIERS + LESSON_FILTERS - 5,
+            Sought::Last => LESSON_IDENTIFIERS + LESSON_FILTERS - 1,
+            Sought::Any => LESSON_IDENTIFIERS + self.rng.below(LESSON_FILTERS as u64) as u32,
+            Sought::None => {
+                let other = self.rng.below(2048 - LESSON_FILTERS as u64) as u32;
+                if other < LESSON_IDENTIFIERS {
+                    other
+                } else {
+                    other + LESSON_FILTERS
+                }
+            }
         }
     }
 

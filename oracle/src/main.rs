@@ -3,6 +3,7 @@
 #![allow(unexpected_cfgs)]
 
 mod commands;
+mod comparisons;
 mod controller;
 #[cfg(coverage)]
 mod coverage;
@@ -28,6 +29,7 @@ use std::process::ExitCode;
 const USAGE: &str = "usage:
   oracle replay                          script on standard input, replies on standard output
   oracle check                           as replay, with the request book; 1 if demand 3 is violated
+  oracle compared [--bound]              script on standard input, how many filters each search compares, or at most may
   oracle generate SEED RECORDS [KIND]    a script by seed
   oracle malformed SEED COUNT DIR        COUNT broken scripts as files in DIR
   oracle shrink A B SCRIPT               the fewest records on which commands A and B differ
@@ -35,7 +37,7 @@ const USAGE: &str = "usage:
   oracle words                           script on standard input, in words
   oracle wrong-list                      the wrong variants by number
  built with --cfg wrong:
-  oracle-wrong replay|check --wrong K    a wrong variant
+  oracle-wrong replay|check|compared --wrong K  a wrong variant
   oracle-wrong tell-apart SEEDS RECORDS  where each variant differs from the right one
  built with --cfg coverage:
   oracle-coverage coverage SEEDS RECORDS [KIND]  which branches the generated scripts reach";

@@ -136,6 +136,18 @@ mistakes! {
     Fifo0BeforeLowerNumber = "FIFO 0 wins before the lower number",
     Fifo1WinsTies = "FIFO 1 wins a tie of numbers",
     LowerBankBeforeLowerNumber = "the lower bank wins, not the lower number",
+    Fifo1NotSearchedAfterMatch = "a class where FIFO 0 has a match isn't searched in FIFO 1",
+    LeftOutByBankNumber = "banks of FIFO 1 are left out from the bank of FIFO 0's match on, not by filter number",
+    LeftOutByLastNumber = "a bank of FIFO 1 is left out when its last filter number isn't below FIFO 0's match",
+    LastClassWins = "the search goes on after a match, and the last class that has one wins",
+    Fifo0OverAllClassesFirst = "FIFO 0 is searched over all classes first, then FIFO 1 in the class found",
+    // How many filters a search compares.
+    OneComparedAfterWinner = "one filter more is compared after the winner",
+    WinnerNotCounted = "the winner isn't counted among the filters compared",
+    InactiveBanksCounted = "the filters of inactive banks are counted as compared",
+    Fifo1NotComparedAfterMatch = "filters of FIFO 1 aren't counted in a class where FIFO 0 has a match",
+    NothingLeftOutInFifo1 = "filters of FIFO 1 are counted though their bank can't win any more",
+    // What filters match, and their words.
     NarrowRtrIdeSwapped = "RTR and IDE change places in the 16-bit word",
     NarrowTakesLowExid = "the 16-bit word ends in EXID 2 to 0",
     NarrowWithoutExid = "the 16-bit word ends in zeros",

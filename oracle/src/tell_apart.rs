@@ -1,6 +1,7 @@
 //! Shows for each wrong variant a script on which its replies differ from
-//! the right ones.
+//! the right ones, or how many filters it says that a search compares.
 
+use crate::comparisons;
 use crate::controller::Controller;
 use crate::generate::{generate, Kind, KINDS};
 use crate::malformed::broken_script;
@@ -43,6 +44,35 @@ impl Case {
     }
 }
 
+/// A script and how many filters its searches compare.
+struct CountCase {
+    name: String,
+    script: Vec<u8>,
+    right: Vec<(u64, usize)>,
+}
+
+impl CountCase {
+    fn new(name: &str, kind: Kind, seed: u64, records: u64) -> CountCase {
+        let script = generate(seed, records, kind);
+        CountCase { name: format!("{name} seed {seed} compared"), right: searches(&script), script }
+    }
+
+    /// The first record whose search is another one now.
+    fn first_difference(&self) -> Option<u64> {
+        let now = searches(&self.script);
+        let most = self.right.len().max(now.len());
+        let different = (0..most).find(|&search| self.right.get(search) != now.get(search))?;
+        self.right.get(different).or(now.get(different)).map(|&(record, _)| record)
+    }
+}
+
+/// The record of each search, and how many filters it compares.
+fn searches(script: &[u8]) -> Vec<(u64, usize)> {
+    let mut searches = Vec::new();
+    comparisons::replay(script, |search| searches.push((search.record, search.compared)));
+    searches
+}
+
 /// Replays until the end, an unreadable record or a false from `take`.
 fn replay(script: &[u8], mut take: impl FnMut(u64, &[u8; REPLY_LENGTH]) -> bool) -> u64 {
     let mut controller = Controller::at_reset();
@@ -65,14 +95,16 @@ pub fn tell_apart(seeds: u64, records: u64) -> Result<u8, String> {
     switch_to(0);
     let mix: Vec<Case> = (1..=seeds).map(|seed| generated("mix", Kind::Mix, seed, records)).collect();
     let special = special_cases(seeds, records);
+    let counted = count_cases(seeds, records);
     let mut never = 0;
     for (index, (name, text)) in MISTAKES.iter().enumerate() {
         let number = index + 1;
         let told = mix.iter().filter(|case| difference(case, number).is_some()).count();
-        let first = mix.iter().chain(&special).find_map(|case| Some((case, difference(case, number)?)));
-        match first {
+        let by_reply = mix.iter().chain(&special).find_map(|case| Some((&case.name, difference(case, number)?)));
+        let by_count = || counted.iter().find_map(|case| Some((&case.name, count_difference(case, number)?)));
+        match by_reply.or_else(by_count) {
             Some((case, record)) => {
-                println!("{number:3}  {name}: {}, record {record} ({told} of {seeds} mix scripts)", case.name)
+                println!("{number:3}  {name}: {case}, record {record} ({told} of {seeds} mix scripts)")
             }
             None => {
                 never += 1;
@@ -91,7 +123,8 @@ fn generated(name: &str, kind: Kind, seed: u64, records: u64) -> Case {
 /// The other kinds, many requests, and broken scripts.
 fn special_cases(seeds: u64, records: u64) -> Vec<Case> {
     let mut cases = Vec::new();
-    for (name, kind) in KINDS.into_iter().filter(|&(_, kind)| kind != Kind::Mix && kind != Kind::Requests) {
+    let left_out = |kind: Kind| matches!(kind, Kind::Mix | Kind::Requests | Kind::Search(_));
+    for (name, kind) in KINDS.into_iter().filter(|&(_, kind)| !left_out(kind)) {
         cases.extend((1..=seeds).map(|seed| generated(name, kind, seed, records)));
     }
     let broken = |index| Case::new(format!("malformed seed 1 file {index}"), broken_script(1, index));
@@ -100,9 +133,24 @@ fn special_cases(seeds: u64, records: u64) -> Vec<Case> {
     cases
 }
 
+/// Filters of all kinds by every seed, the lessons by one.
+fn count_cases(seeds: u64, records: u64) -> Vec<CountCase> {
+    let filters = (1..=seeds).map(|seed| CountCase::new("filters", Kind::Filters, seed, records));
+    let lessons = KINDS.into_iter().filter(|(_, kind)| matches!(kind, Kind::Search(_)));
+    filters.chain(lessons.map(|(name, kind)| CountCase::new(name, kind, 1, records))).collect()
+}
+
 fn difference(case: &Case, number: usize) -> Option<u64> {
+    switched(number, || case.first_difference())
+}
+
+fn count_difference(case: &CountCase, number: usize) -> Option<u64> {
+    switched(number, || case.first_difference())
+}
+
+fn switched(number: usize, first_difference: impl Fn() -> Option<u64>) -> Option<u64> {
     switch_to(number as u32);
-    let record = case.first_difference();
+    let record = first_difference();
     switch_to(0);
     record
 }

@@ -1,12 +1,14 @@
 //! Document 01's numbers on the wall, its whole script, and some of the
 //! settled readings, each as a short history of steps.
 
+use crate::comparisons;
 use crate::controller::{Answer, Controller, Mode};
 use crate::fifo::Frame;
-use crate::generate::{generate, KINDS};
+use crate::filter::{Filters, Hit};
+use crate::generate::{generate, Kind, KINDS};
 use crate::malformed::broken_script;
 use crate::rng::Rng;
-use crate::script::{decode, step, REPLY_LENGTH};
+use crate::script::{decode, step, Step, REPLY_LENGTH};
 
 const MCR: u16 = 0x00;
 const MSR: u16 = 0x04;
@@ -416,24 +418,28 @@ fn plain_search(words: [u32; 4], values: &[[u32; 2]], identifier: u32) -> Option
     hits.into_iter().min().map(|(_, _, number, fifo)| (number, fifo))
 }
 
+/// Words that many of the values of `random_banks` take.
+const SOUGHT: [u32; 6] = [0x2000_0000, 0x2000_0002, 0x2000_0004, 0x2010_000C, 0x2004_0004, 0xFFE0_0000];
+
+/// FM1R, FS1R, FFA1R and FA1R, and the values of the banks.
+fn random_banks(rng: &mut Rng) -> ([u32; 4], Vec<[u32; 2]>) {
+    let words = [rng.word(), rng.word(), rng.word(), rng.word()].map(|word| word & 0x3FFF);
+    let narrow = |word: u32| word >> 21 << 5 | (word >> 1 & 1) << 4 | (word >> 2 & 1) << 3 | word >> 18 & 7;
+    let mut value = || match rng.below(5) {
+        0 => rng.pick(&SOUGHT),
+        1 => narrow(rng.pick(&SOUGHT)) | narrow(rng.pick(&SOUGHT)) << 16,
+        2 => narrow(rng.pick(&SOUGHT)) | 0xFFE0_0000,
+        3 => rng.pick(&[0, 1, u32::MAX, 0xFFE0_0000]),
+        _ => rng.word(),
+    };
+    (words, (0..14).map(|_| [value(), value()]).collect())
+}
+
 #[test]
 fn filters_take_what_a_plain_search_finds() {
     let mut rng = Rng::new(5);
-    let pool = [0x2000_0000u32, 0x2000_0002, 0x2000_0004, 0x2010_000C, 0x2004_0004, 0xFFE0_0000];
     for _ in 0..3000 {
-        let words = [rng.word(), rng.word(), rng.word(), rng.word()].map(|word| word & 0x3FFF);
-        let narrow = |word: u32| word >> 21 << 5 | (word >> 1 & 1) << 4 | (word >> 2 & 1) << 3 | word >> 18 & 7;
-        let values: Vec<[u32; 2]> = (0..14)
-            .map(|_| {
-                [0, 1].map(|_| match rng.below(5) {
-                    0 => rng.pick(&pool),
-                    1 => narrow(rng.pick(&pool)) | narrow(rng.pick(&pool)) << 16,
-                    2 => narrow(rng.pick(&pool)) | 0xFFE0_0000,
-                    3 => rng.pick(&[0, 1, u32::MAX, 0xFFE0_0000]),
-                    _ => rng.word(),
-                })
-            })
-            .collect();
+        let (words, values) = random_banks(&mut rng);
         let mut controller = normal(0);
         write(&mut controller, FMR, 1);
         for (offset, word) in [FM1R, FS1R, FFA1R, FA1R].into_iter().zip(words) {
@@ -444,7 +450,7 @@ fn filters_take_what_a_plain_search_finds() {
             write(&mut controller, 0x244 + 8 * bank as u16, value[1]);
         }
         write(&mut controller, FMR, 0);
-        for identifier in pool {
+        for identifier in SOUGHT {
             let expected = plain_search(words, &values, identifier);
             controller.frame(data_frame(identifier, 0));
             for fifo in 0..2u16 {
@@ -457,5 +463,188 @@ fn filters_take_what_a_plain_search_finds() {
                 }
             }
         }
+    }
+}
+
+fn filters_with([mode, scale, assignment, activation]: [u32; 4], values: &[[u32; 2]]) -> Filters {
+    let mut filters = Filters::at_reset();
+    filters.set_mode(mode);
+    filters.set_scale(scale);
+    filters.set_assignment(assignment);
+    filters.set_activation(activation);
+    for (bank, [r1, r2]) in values.iter().enumerate() {
+        filters.set_value(bank, 0, *r1);
+        filters.set_value(bank, 1, *r2);
+    }
+    filters
+}
+
+/// The filters that the search compares, counted in its course.
+fn walk(filters: &Filters, identifier: u32) -> usize {
+    let list = comparisons::in_order(filters, identifier);
+    let mut count = 0;
+    for class in 0..4 {
+        let mut hits = [None, None];
+        for filter in list.iter().filter(|filter| filter.class == class) {
+            let can_win = hits[0].map_or(true, |number| filter.first_number < number);
+            if hits[filter.fifo].is_none() && can_win {
+                count += 1;
+                hits[filter.fifo] = filter.matches.then_some(filter.number);
+            }
+        }
+        if hits != [None, None] {
+            return count;
+        }
+    }
+    count
+}
+
+#[test]
+fn list_of_comparisons_has_the_winner_of_the_search() {
+    let mut rng = Rng::new(6);
+    for _ in 0..20_000 {
+        let (mut words, values) = random_banks(&mut rng);
+        if rng.percent(50) {
+            // One class only.
+            words[0] = rng.pick(&[0, 0x3FFF]);
+            words[1] = rng.pick(&[0, 0x3FFF]);
+        }
+        let filters = filters_with(words, &values);
+        for identifier in SOUGHT {
+            let list = comparisons::in_order(&filters, identifier);
+            let winner = comparisons::winner(&list);
+            let hit = winner.map(|filter| Hit { number: filter.number as u8, fifo: filter.fifo });
+            assert_eq!(hit, filters.search(identifier));
+            let (compared, bound) = (comparisons::compared(&list), comparisons::bound(&list));
+            assert_eq!(compared, walk(&filters, identifier));
+            assert!(compared <= bound && bound <= list.len());
+            assert!(winner.is_some() || compared == list.len());
+        }
+    }
+}
+
+const SOUGHT_WORD: u32 = 0x2000_0000;
+const SOUGHT_HALF: u32 = 0x2000;
+
+/// What is compared, and the bound.
+fn counts(filters: &Filters) -> (usize, usize) {
+    let list = comparisons::in_order(filters, SOUGHT_WORD);
+    (comparisons::compared(&list), comparisons::bound(&list))
+}
+
+/// Banks 0 to 3 are of the four classes; a value of ones never matches.
+#[test]
+fn comparisons_over_the_classes() {
+    let ones = [u32::MAX; 2];
+    let four = |active, values: [[u32; 2]; 4]| counts(&filters_with([0b0101, 0b0011, 0, active], &values));
+    assert_eq!(four(0, [ones; 4]), (0, 0));
+    assert_eq!(four(0b1111, [ones; 4]), (9, 9));
+    assert_eq!(four(0b1011, [ones; 4]), (5, 5));
+    assert_eq!(four(0b1111, [[SOUGHT_WORD, 0], ones, ones, ones]), (1, 1));
+    assert_eq!(four(0b1111, [[0, SOUGHT_WORD], ones, ones, ones]), (2, 2));
+    assert_eq!(four(0b1111, [ones, [0, 0], ones, ones]), (3, 3));
+    assert_eq!(four(0b1111, [ones, ones, [SOUGHT_HALF << 16, 0], ones]), (5, 5));
+    assert_eq!(four(0b1101, [ones, ones, [0, SOUGHT_HALF], ones]), (5, 5));
+    assert_eq!(four(0b1111, [ones, ones, ones, [u32::MAX, 0]]), (9, 9));
+    assert_eq!(four(0b1111, [ones, [0, 0], [SOUGHT_HALF, 0], [0, 0]]), (3, 3));
+    assert_eq!(four(0b1000, [[SOUGHT_WORD, 0], ones, ones, [0, 0]]), (1, 1));
+}
+
+/// 16-bit lists, the odd banks in FIFO 1, that match in these banks and places.
+fn alternating(matching: &[(usize, usize)]) -> Filters {
+    let mut values = [[0; 2]; 14];
+    for &(bank, place) in matching {
+        values[bank][place / 2] |= SOUGHT_HALF << (16 * (place % 2));
+    }
+    filters_with([0x3FFF, 0, 0x2AAA, 0x3FFF], &values)
+}
+
+#[test]
+fn comparisons_in_both_fifos() {
+    // FIFO 0 has no match: all of its 28, then FIFO 1 up to its match.
+    assert_eq!(counts(&alternating(&[])), (56, 56));
+    assert_eq!(counts(&alternating(&[(1, 0)])), (29, 29));
+    assert_eq!(counts(&alternating(&[(13, 3)])), (56, 56));
+    // Number 0 of FIFO 0 matches: no bank of FIFO 1 can win.
+    assert_eq!(counts(&alternating(&[(0, 0)])), (1, 29));
+    assert_eq!(counts(&alternating(&[(0, 0), (1, 0)])), (1, 2));
+    // Number 1: the first bank of FIFO 1 can. Number 4: the second starts at 4 and can't. Number 5: it can.
+    assert_eq!(counts(&alternating(&[(0, 1)])), (6, 30));
+    assert_eq!(counts(&alternating(&[(2, 0)])), (9, 33));
+    assert_eq!(counts(&alternating(&[(2, 1)])), (14, 34));
+    // Number 5 against 6, and against 8 in a bank that is left out.
+    assert_eq!(counts(&alternating(&[(2, 1), (3, 2)])), (13, 13));
+    assert_eq!(counts(&alternating(&[(2, 1), (5, 0)])), (14, 15));
+    // FIFO 1 wins with number 2 against 9.
+    assert_eq!(counts(&alternating(&[(4, 1), (1, 2)])), (13, 13));
+}
+
+#[test]
+fn comparisons_in_ties() {
+    let tie = |filters: &Filters| (counts(filters), filters.search(SOUGHT_WORD));
+    let won = |number| Some(Hit { number, fifo: 0 });
+    assert_eq!(tie(&alternating(&[(2, 0), (3, 0)])), ((9, 10), won(4)));
+    assert_eq!(tie(&alternating(&[(2, 1), (3, 1)])), ((12, 12), won(5)));
+}
+
+/// 32-bit masks in banks 0 to 3.
+#[test]
+fn comparisons_go_by_filter_numbers() {
+    let masks = |assignment, values: [[u32; 2]; 4]| counts(&filters_with([0, 0x3FFF, assignment, 0xF], &values));
+    let ones = [u32::MAX; 2];
+    // FIFO 0 has bank 3, whose filter is number 0: the lower banks, of FIFO 1, can't win.
+    assert_eq!(masks(0b0111, [[0; 2]; 4]), (1, 2));
+    // FIFO 1 has bank 3, whose number 0 is below the number 1 of bank 1.
+    assert_eq!(masks(0b1000, [ones, [0; 2], ones, ones]), (3, 3));
+    assert_eq!(masks(0b1000, [ones, [0; 2], ones, [0; 2]]), (3, 3));
+}
+
+/// The records of a script in which the filters are searched, from 0, and what is compared.
+fn searches(script: &[u8]) -> Vec<(u64, usize)> {
+    let mut searches = Vec::new();
+    comparisons::replay(script, |search| searches.push((search.record, search.compared)));
+    searches
+}
+
+/// Bank 0 takes the frame as it is sent; bank 1 takes every frame.
+#[test]
+fn loopback_searches_the_word_as_sent() {
+    let request = [Step::Write(TI0, SOUGHT_WORD | 0x001F_FFF9), Step::Start, Step::OwnEnd(0)];
+    let mut steps = vec![
+        Step::Write(FM1R, 1),
+        Step::Write(FS1R, 1),
+        Step::Write(0x240, u32::MAX),
+        Step::Write(0x244, SOUGHT_WORD),
+        Step::Write(FA1R, 3),
+        Step::Write(MCR, 1),
+        Step::Write(BTR, 1 << 30),
+        Step::Write(MCR, 0),
+        Step::Idle,
+    ];
+    steps.extend(request);
+    steps.push(Step::Write(FMR, 0));
+    steps.extend(request);
+    steps.extend([Step::OwnEnd(0), Step::Frame(data_frame(SOUGHT_WORD, 0))]);
+    let mut script = Vec::new();
+    steps.iter().for_each(|step| step.encode(&mut script));
+    assert_eq!(searches(&script), [(15, 2)]);
+}
+
+#[test]
+fn comparisons_of_the_lessons() {
+    let expected = [
+        ("search-one-first", 1),
+        ("search-one-last", 56),
+        ("search-one-none", 56),
+        ("search-both-first", 1),
+        ("search-both-last", 56),
+        ("search-both-none", 56),
+        ("search-inactive", 0),
+    ];
+    for (name, compared) in expected {
+        let kind = Kind::by_name(name).expect("a kind");
+        let searches = searches(&generate(3, 200, kind));
+        assert_eq!(searches.len(), 164);
+        assert!(searches.iter().all(|&(_, count)| count == compared), "{name}");
     }
 }
