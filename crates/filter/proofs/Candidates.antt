@@ -1,7 +1,7 @@
 -- Lists of filters: how long they are, and where they are cut. Assumes nothing.
 use mathlib.Core.Path.{_≡_, refl, sym, ap, _∙_}
 use mathlib.Core.Bool.{Bool, true, false, _||_}
-use mathlib.Core.List.{List, [], _∷_, _++_, append-assoc, append-nil}
+use mathlib.Core.List.{List, [], _∷_, _++_, append-assoc, append-nil, List·Memᴰ, List·Memᴰ·head, Memᴰ·append-right}
 use Prim.Native.Nat.{ℕ, zero, suc, _+_, _≤_, _<_}
 use native.Mathlib.Nat.{le-refl}
 use native.Mathlib.Decide.{le-ind}
@@ -56,6 +56,15 @@ of-banks-skip t i m h = le-ind (λ (m : ℕ). ((j : ℕ) → i ≤ j → j < m �
     (λ e. refl)
     (λ m l s e. rw (e m l (omega arith), append-nil) (s (λ j p q. e j p (omega arith))))
     m h
+
+-- a row goes on behind each of its lists
+row-split : (f : ℕ → List Candidate) (n i : ℕ) → i < n → (r : List Candidate) × (row f n ≡ row f i ++ (f i ++ r))
+unfolding row
+row-split f n i l =
+    le-ind (λ (m : ℕ). (r : List Candidate) × (row f m ≡ row f i ++ (f i ++ r)))
+    ([], ap (λ (r : List Candidate). row f i ++ r) (sym (append-nil (f i))))
+    (λ m k s. (s .0 ++ f m, rw (s .1, append-assoc (row f i) (f i ++ s .0) (f m), append-assoc (f i) (s .0) (f m))))
+    n l
 
 -- ---- where they are cut
 
@@ -153,6 +162,24 @@ module _ (p : Candidate → Bool) (t : Bank → ℕ) where
         length-append (ofBank (bank i) j) (candidate (bank i) j ∷ []),
         length-of-bank (bank i) j,
       )
+
+-- a filter before which p holds of none is taken
+module _ (p : Candidate → Bool) (t : Bank → ℕ) where
+  reached : (a b r s : List Candidate) (c : Candidate) → any p a ≡ false → any p b ≡ false
+      → List·Memᴰ c (upToFirst p (a ++ ((b ++ ((c ∷ []) ++ r)) ++ s)))
+  unfolding upToFirst
+  reached a b r s c e f =
+      rw (cut-later p a ((b ++ (c ∷ r)) ++ s) e, append-assoc b (c ∷ r) s, cut-later p b (c ∷ (r ++ s)) f)
+      (Memᴰ·append-right a (Memᴰ·append-right b (List·Memᴰ·head refl)))
+
+  pub taken-at : (n i j : ℕ) → i < n → j < t (bank i) → NoneOf p t i → ((a : ℕ) → a < j → p (candidate (bank i) a) ≡ false)
+      → List·Memᴰ (candidate (bank i) j) (upToFirst p (ofBanks t n))
+  unfolding ofBanks ofBank
+  taken-at n i j l m none before =
+      let outer = row-split (λ (a : ℕ). ofBank (bank a) (t (bank a))) n i l in
+      let inner = row-split (λ (a : ℕ). candidate (bank i) a ∷ []) (t (bank i)) j m in
+      rw (outer .1, inner .1)
+      (reached (ofBanks t i) (ofBank (bank i) j) (inner .0) (outer .0) (candidate (bank i) j) (none-in-banks p t i none) (none-in-bank p t (bank i) j before))
 
 -- fewer banks, and no more is taken
 pub cut-prefix : (p : Candidate → Bool) (t : Bank → ℕ) (i n : ℕ) → i ≤ n

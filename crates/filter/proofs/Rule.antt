@@ -1,19 +1,18 @@
 -- Document 02's rule of what a search compares. Assumes nothing.
-use mathlib.Core.Path.{_≡_, refl, sym, ap, ap₂, _∙_}
+use mathlib.Core.Path.{_≡_, refl, sym, ap, _∙_}
 use mathlib.Core.Bool.{Bool, true, false, not, _&&_}
-use mathlib.Core.List.{List, [], _∷_, _++_, List·Memᴰ, List·Memᴰ·head, Memᴰ·cast, Memᴰ·append-left, Memᴰ·append-right}
+use mathlib.Core.List.{List, [], _∷_, List·Memᴰ, Memᴰ·append-left, Memᴰ·append-right}
 use mathlib.Core.Logic.{_⊎_, inl, inr}
 use Prim.Native.Nat.{ℕ, zero, suc, _+_, _≤_, _<_}
 use native.Mathlib.Nat.{le-refl, le-antisymm}
 use native.Mathlib.Omega.{arith}
-use borrow.Author.Tests.{lt-ltb, le-ltb, ltb-false, eq-eqb, ne-eqb}
+use borrow.Author.Tests.{lt-ltb, le-ltb, ltb-false, eqb-true, eq-eqb, ne-eqb}
 use lib.Dec.{eqb, ltb}
 use lib.ListN.{length, length-append}
 use Rattle.model.specs.Base.{pick, bit, sum}
 use Rattle.model.specs.Banks.{bank, filterNumber, isActive, classOf, rank, width, belongs, share, firstNumber, numberOf}
 use Rattle.model.specs.Search.{searched, tried, firstHit, better, acceptance}
-use Rattle.model.specs.Filtering.{NoLater, Accepted}
-use Rattle.model.specs.Shown.{fifoNumber}
+use Rattle.model.specs.Filtering.{NumberNoLater, Accepted}
 use Rattle.model.specs.declared.Filters.{Filters}
 use Rattle.model.specs.declared.Bank.{Bank}
 use Rattle.model.specs.declared.FilterNumber.{FilterNumber}
@@ -25,15 +24,14 @@ use Rattle.model.specs.declared.Hit.{Hit}
 use Rattle.model.specs.declared.Hit.the-variants.{Filter, Nothing}
 use Rattle.model.specs.declared.Acceptance.the-variants.{Into, Rejected}
 use Rattle.model.proofs.Acceptances.{rejected-iff-none-takes}
-use Rattle.model.proofs.FirstHit.{lower, filter-within}
-use Rattle.model.proofs.FilterNumbers.{numbers}
-use Rattle.model.proofs.LowestNumber.{rank-injective, tried-share, lowest, first-hit-active}
+use Rattle.model.proofs.FirstHit.{lower}
+use Rattle.model.proofs.LowestNumber.{rank-injective, tried-share, sum-up, lowest, first-hit-active}
 use Rattle.filter.specs.Compared.{Candidate, candidate, ofBank, ofBanks, upToFirst, takesFrame, upToMatch, canWin, triedAfter, comparedIn, isInto, upToClass, comparedFilters, compared, activeFilters, betterFilters, Comparisons}
 use Rattle.filter.specs.Places.{winnerOf, resultOf}
 use Rattle.filter.proofs.BankWords.{no-bit}
-use Rattle.filter.proofs.Candidates.{sum-same, of-banks-same, of-banks-skip, cut-prefix, cut-at}
+use Rattle.filter.proofs.Candidates.{sum-same, of-banks-same, of-banks-skip, NoneOf, taken-at, cut-prefix}
 use Rattle.filter.proofs.Classes.{into-any}
-use Rattle.filter.proofs.Comparing.{length-compared, compared-in-both, FirstAt, none-takes, first-at, all-compared}
+use Rattle.filter.proofs.Comparing.{length-compared, compared-in-both, all-compared}
 use Rattle.filter.proofs.Numbered.{numbers-up, first-number-of-bank}
 
 -- ---- at most those of each FIFO up to its first match
@@ -89,34 +87,45 @@ module _ (n : ℕ) (g : Filters) (v : List ℕ) (w : ℕ) (k : FilterClass) wher
   within-bound : length (comparedIn n g v w k) ≤ length (upToMatch n g v w k F0) + length (upToMatch n g v w k F1)
   within-bound = omega (arith, length-compared n g v w k, no-more (firstHit n g v w k F0))
 
--- ---- the first match is among those that are compared
+-- ---- the filters that are looked at
 
-first-member : (p : Candidate → Bool) (t : Bank → ℕ) (n i j : ℕ) → FirstAt p t n i j
-    → List·Memᴰ (candidate (bank i) j) (upToFirst p (ofBanks t n))
-first-member p t n i j s =
-    rw (cut-at p t n i j (s .bank-within) (s .within) (s .none) (s .before) (s .here))
-    (Memᴰ·append-right (ofBanks t i) (Memᴰ·append-right (ofBank (bank i) j) (List·Memᴰ·head refl)))
+-- after FIFO 0's match no more than before
+fewer-tried : (n : ℕ) (g : Filters) (k : FilterClass) (h : Hit) (b : Bank) → triedAfter n g k h b ≤ tried g k F1 b
+unfolding triedAfter
+fewer-tried n g k h b = go (canWin h (firstNumber n g F1 b))
+  where
+    go : (c : Bool) → pick c (tried g k F1 b) 0 ≤ tried g k F1 b
+    go true = le-refl _
+    go false = omega arith
 
--- after FIFO 0's match too, where its bank can win
-module _ (n : ℕ) (g : Filters) (v : List ℕ) (w : ℕ) (k : FilterClass) (h : Hit) where
-  fewer-tried : (b : Bank) → triedAfter n g k h b ≤ tried g k F1 b
-  unfolding triedAfter
-  fewer-tried b = go (canWin h (firstNumber n g F1 b))
-    where
-      go : (c : Bool) → pick c (tried g k F1 b) 0 ≤ tried g k F1 b
-      go true = le-refl _
-      go false = omega arith
+-- those of active banks of the class in the FIFO
+tried-is : (g : Filters) (k : FilterClass) (f : Fifo) (b : Bank) (j : ℕ) → j < tried g k f b
+    → (isActive g b ≡ true) × (belongs f g b ≡ true) × (classOf g b ≡ k)
+unfolding tried searched
+tried-is g k f b j = go (isActive g b) (belongs f g b) (eqb (rank (classOf g b)) (rank k)) refl
+  where
+    go : (a o t : Bool) → eqb (rank (classOf g b)) (rank k) ≡ t → j < pick (a && (o && t)) (width k) 0 → (a ≡ true) × (o ≡ true) × (classOf g b ≡ k)
+    go true true true e h = (refl, refl, rank-injective (classOf g b) k (eqb-true (rank (classOf g b)) (rank k) e))
+    go true true false e h = absurd (omega arith)
+    go true false t e h = absurd (omega arith)
+    go false o t e h = absurd (omega arith)
 
-  still-first : (p : Candidate → Bool) (i j : ℕ) → canWin h (firstNumber n g F1 (bank i)) ≡ true → FirstAt p (tried g k F1) n i j
-      → FirstAt p (triedAfter n g k h) n i j
-  unfolding triedAfter
-  still-first p i j e s = record {
-    bank-within = s .bank-within;
-    within = rw e (s .within);
-    none = λ a b l o. s .none a b l (omega (arith, fewer-tried (bank a)));
-    before = s .before;
-    here = s .here;
-  }
+all-tried : (g : Filters) (k : FilterClass) (f : Fifo) (b : Bank) → isActive g b ≡ true → belongs f g b ≡ true → classOf g b ≡ k
+    → tried g k f b ≡ width k
+unfolding tried searched
+all-tried g k f b on own class = rw (on, own, class, eq-eqb (rank k) (rank k) refl)
+
+-- their numbers end before those of a higher bank begin
+numbers-ascend : (n : ℕ) (g : Filters) (k : FilterClass) (f : Fifo) (c i : ℕ) → c < i → i < n
+    → firstNumber n g f (bank c) .0 + tried g k f (bank c) ≤ firstNumber n g f (bank i) .0
+numbers-ascend n g k f c i l h =
+    omega (
+      arith,
+      first-number-of-bank n g f (bank c) (omega arith),
+      first-number-of-bank n g f (bank i) h,
+      sum-up (λ (j : ℕ). share f g (bank j)) c i l,
+      tried-share g k f (bank c),
+    )
 
 -- ---- counts over the banks
 
@@ -294,52 +303,67 @@ module _ (n : ℕ) (g : Filters) (v : List ℕ) (w : ℕ) where
             into-either (Filter y) = into-any y (Filter x)
             into-either Nothing = refl
 
-    -- so it stands where the first match does
-    winner-place : (i : ℕ) × (j : ℕ) × FirstAt (takesFrame v w (a .class)) (tried g (a .class) f) n i j × (bank i ≡ a .bank) × (j ≡ a .filter) × (x ≡ numberOf n g f (bank i) j)
-    winner-place =
-        let s = first-at n g v w (a .class) f x winner-hit in
-        let inside = looked (s .0) (s .1) (s .2 .within) in
-        let own : a .filter < width (classOf g (a .bank)) = rw (a .active .class) (filter-within (a .class) _ _ (a .filter) w (a .active .takes)) in
-        let same = numbers n g f .distinct (bank (s .0)) (a .bank) (s .1) (a .filter) (s .2 .bank-within) (a .active .within) (inside .0) (a .active .assigned) (inside .1) own (sym (s .3) ∙ a .number) in
-        (s .0, s .1, s .2, same .0, same .1, s .3)
-      where
-        looked : (i j : ℕ) → j < tried g (a .class) f (bank i) → (belongs f g (bank i) ≡ true) × (j < width (classOf g (bank i)))
-        looked i j l = go (belongs f g (bank i)) refl
-          where
-            go : (o : Bool) → belongs f g (bank i) ≡ o → (o ≡ true) × (j < width (classOf g (bank i)))
-            go true e = let all = rw e at (tried-share g (a .class) f (bank i)) in (refl, omega arith)
-            go false e = let none = rw e at (tried-share g (a .class) f (bank i)) in absurd (omega arith)
+    -- a filter of its class and of FIFO e that comes no later is compared
+    module _ (e : Fifo) (i j : ℕ) (within : i < n) (looked : j < tried g (a .class) e (bank i))
+        (noLater : NumberNoLater (numberOf n g e (bank i) j) e x f) where
+      at-most : numberOf n g e (bank i) j .0 ≤ x .0
+      at-most = elim noLater [ inl s ↦ omega arith | inr s ↦ omega (arith, s .0) ]
 
-    -- against a match in FIFO 0, a winner in FIFO 1 has the lower number
-    lower-number : f ≡ F1 → (y : FilterNumber) → hits (a .class) F0 ≡ Filter y → x .0 < y .0
-    lower-number e y d =
-        let m = first-hit-active n g v w (a .class) F0 y d in
-        rw (m .3) (elim (a .noLater (a .class) F0 (m .0) (m .1) (m .2)) [
-          | inl r ↦ absurd (omega arith)
-          | inr (r, inl s) ↦ s
-          | inr (r, inr s) ↦ let one : fifoNumber f ≡ 1 = ap fifoNumber e in absurd (omega (arith, s .1))
-        ])
+      -- one with a lower number does not take the frame
+      lower-false : (c : Bank) (m : ℕ) → c .0 < n → m < tried g (a .class) e c → numberOf n g e c m .0 < x .0
+          → takesFrame v w (a .class) (candidate c m) ≡ false
+      lower-false c m l o h = go (takesFrame v w (a .class) (candidate c m)) refl
+        where
+          go : (t : Bool) → takesFrame v w (a .class) (candidate c m) ≡ t → t ≡ false
+          go false d = refl
+          go true d =
+              let is = tried-is g (a .class) e c m o in
+              elim (a .noLater (a .class) e c m (record { within = l; active = is .0; assigned = is .1; class = is .2; takes = d })) [
+                | inl r ↦ absurd (omega arith)
+                | inr (r, inl s) ↦ absurd (omega arith)
+                | inr (r, inr s) ↦ absurd (omega (arith, s .0))
+              ]
 
-    can-still-win : f ≡ F1 → (i j : ℕ) → x ≡ numberOf n g F1 (bank i) j → canWin (hits (a .class) F0) (firstNumber n g F1 (bank i)) ≡ true
-    can-still-win e i j d = go (hits (a .class) F0) refl
+      none-below : NoneOf (takesFrame v w (a .class)) (tried g (a .class) e) i
+      none-below c m l o =
+          let up = numbers-ascend n g (a .class) e c i l within in
+          lower-false (bank c) m (omega arith) o (omega (arith, at-most))
+
+      none-before : (m : ℕ) → m < j → takesFrame v w (a .class) (candidate (bank i) m) ≡ false
+      none-before m l = lower-false (bank i) m within (omega arith) (omega (arith, at-most))
+
+    -- in FIFO 1 its bank can win against a match in FIFO 0
+    can-still-win : (i j : ℕ) → NumberNoLater (numberOf n g F1 (bank i) j) F1 x f
+        → canWin (hits (a .class) F0) (firstNumber n g F1 (bank i)) ≡ true
+    can-still-win i j h = go (hits (a .class) F0) refl
       where
-        go : (h : Hit) → hits (a .class) F0 ≡ h → canWin h (firstNumber n g F1 (bank i)) ≡ true
+        below : (y : FilterNumber) → NumberNoLater x f y F0 → NumberNoLater (numberOf n g F1 (bank i) j) F1 x f → firstNumber n g F1 (bank i) .0 < y .0
+        below y (inl s) (inl r) = omega arith
+        below y (inl s) (inr r) = omega (arith, r .0)
+        below y (inr s) (inl r) = omega (arith, s .0)
+        below y (inr s) (inr r) = absurd (omega (arith, r .1, s .1))
+
+        go : (t : Hit) → hits (a .class) F0 ≡ t → canWin t (firstNumber n g F1 (bank i)) ≡ true
         go Nothing q = refl
         go (Filter y) q =
-            let above = lower-number e y q in
-            let number = ap (λ (z : FilterNumber). z .0) d in lt-ltb (firstNumber n g F1 (bank i) .0) (y .0) (omega arith)
+            let m = first-hit-active n g v w (a .class) F0 y q in
+            let over : NumberNoLater x f y F0 = rw (m .3) (elim (a .noLater (a .class) F0 (m .0) (m .1) (m .2)) [
+              | inl r ↦ absurd (omega arith)
+              | inr r ↦ r .1
+            ]) in
+            lt-ltb (firstNumber n g F1 (bank i) .0) (y .0) (below y over h)
 
-  winner-among : (f : Fifo) (x : FilterNumber) (a : Accepted n g v w f x)
-      → List·Memᴰ (candidate (a .bank) (a .filter)) (comparedIn n g v w (a .class))
-  unfolding comparedIn upToMatch
-  winner-among F0 x a =
-      let p = winner-place F0 x a in
-      Memᴰ·cast (ap₂ candidate (sym (p .3)) (sym (p .4))) (Memᴰ·append-left (upToFirst (takesFrame v w (a .class)) (ofBanks (triedAfter n g (a .class) (hits (a .class) F0)) n)) (first-member (takesFrame v w (a .class)) (tried g (a .class) F0) n (p .0) (p .1) (p .2)))
-  winner-among F1 x a =
-      let p = winner-place F1 x a in
-      let win = can-still-win F1 x a refl (p .0) (p .1) (p .5) in
-      let first = still-first n g v w (a .class) (hits (a .class) F0) (takesFrame v w (a .class)) (p .0) (p .1) win (p .2) in
-      Memᴰ·cast (ap₂ candidate (sym (p .3)) (sym (p .4))) (Memᴰ·append-right (upToMatch n g v w (a .class) F0) (first-member (takesFrame v w (a .class)) (triedAfter n g (a .class) (hits (a .class) F0)) n (p .0) (p .1) first))
+  up-to-winner : (f : Fifo) (x : FilterNumber) (a : Accepted n g v w f x) (e : Fifo) (i j : ℕ) → i < n → j < tried g (a .class) e (bank i)
+      → NumberNoLater (numberOf n g e (bank i) j) e x f → List·Memᴰ (candidate (bank i) j) (comparedIn n g v w (a .class))
+  unfolding comparedIn upToMatch triedAfter
+  up-to-winner f x a F0 i j l o h =
+      Memᴰ·append-left (upToFirst (takesFrame v w (a .class)) (ofBanks (triedAfter n g (a .class) (hits (a .class) F0)) n))
+      (taken-at (takesFrame v w (a .class)) (tried g (a .class) F0) n i j l o (none-below f x a F0 i j l o h) (none-before f x a F0 i j l o h))
+  up-to-winner f x a F1 i j l o h =
+      Memᴰ·append-right (upToMatch n g v w (a .class) F0)
+      (taken-at (takesFrame v w (a .class)) (triedAfter n g (a .class) (hits (a .class) F0)) n i j l (rw (can-still-win f x a i j h) o)
+      (λ c m p q. none-below f x a F1 i j l o h c m p (omega (arith, fewer-tried n g (a .class) (hits (a .class) F0) (bank c))))
+      (none-before f x a F1 i j l o h))
 
   -- document 02, Q-3
   pub comparisons : Comparisons n g v w
@@ -347,7 +371,7 @@ module _ (n : ℕ) (g : Filters) (v : List ℕ) (w : ℕ) where
     noMatch = λ e. all-whole (λ k f. no-hit k f (λ x d.
         let m = first-hit-active n g v w k f x d in rejected-iff-none-takes n g v w .0 e k f (m .0) (m .1) (m .2)));
     match = λ f x a. better-whole (a .class) (none-better f x a) (into f x a);
-    winner = winner-among;
+    upToWinner = λ f x a e b j l on own class o h. up-to-winner f x a e (b .0) j l (rw (all-tried g (a .class) e b on own class) o) h;
     bound = within-bound n g v w;
   }
 

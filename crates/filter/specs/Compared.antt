@@ -4,13 +4,13 @@
 use mathlib.Core.Bool.{Bool, true, false, _&&_}
 use mathlib.Core.List.{List, [], _∷_, _++_, List·Memᴰ}
 use mathlib.Core.Path.{_≡_}
-use Prim.Native.Nat.{ℕ, zero, suc, _+_, _≤_}
+use Prim.Native.Nat.{ℕ, zero, suc, _+_, _≤_, _<_}
 use lib.Dec.{ltb}
 use lib.ListN.{length}
 use Rattle.model.specs.Base.{pick, sum}
-use Rattle.model.specs.Banks.{bank, firstWord, secondWord, isActive, classOf, rank, width, matches, firstNumber}
+use Rattle.model.specs.Banks.{bank, firstWord, secondWord, isActive, classOf, rank, width, matches, belongs, firstNumber, numberOf}
 use Rattle.model.specs.Search.{tried, firstHit, better, acceptance}
-use Rattle.model.specs.Filtering.{Accepted}
+use Rattle.model.specs.Filtering.{NumberNoLater, Accepted}
 use Rattle.model.specs.declared.Filters.{Filters}
 use Rattle.model.specs.declared.Bank.{Bank}
 use Rattle.model.specs.declared.FilterClass.{FilterClass}
@@ -110,9 +110,10 @@ pub record Comparisons (n : ℕ) (g : Filters) (v : List ℕ) (w : ℕ) : Type 0
   -- else all active ones of better classes, and those that are compared in the winner's class,
   pub match : (f : Fifo) (x : FilterNumber) (a : Accepted n g v w f x)
       → compared n g v w ≡ betterFilters n g (a .class) + length (comparedIn n g v w (a .class))
-  -- the winner among them,
-  pub winner : (f : Fifo) (x : FilterNumber) (a : Accepted n g v w f x)
-      → List·Memᴰ (candidate (a .bank) (a .filter)) (comparedIn n g v w (a .class))
+  -- the winner among them, and every filter that would win if it took the frame
+  pub upToWinner : (f : Fifo) (x : FilterNumber) (a : Accepted n g v w f x) (e : Fifo) (b : Bank) (j : ℕ)
+      → b .0 < n → isActive g b ≡ true → belongs e g b ≡ true → classOf g b ≡ a .class → j < width (a .class)
+      → NumberNoLater (numberOf n g e b j) e x f → List·Memᴰ (candidate b j) (comparedIn n g v w (a .class))
   -- and at most those of each FIFO up to its first match
   pub bound : (k : FilterClass)
       → length (comparedIn n g v w k) ≤ length (upToMatch n g v w k F0) + length (upToMatch n g v w k F1)
