@@ -7,7 +7,6 @@ use Prim.Native.Nat.{ℕ, _+_, _*_, _≤_, _<_}
 use native.Mathlib.Omega.{arith}
 use borrow.Author.Tests.{ltb-false, le-ltb}
 use lib.Dec.{ltb}
-use lib.ListN.{length}
 use Rattle.model.specs.Base.{pick, bit}
 use Rattle.model.specs.Banks.{bank, firstWord, secondWord, width, matches, belongs, firstNumber, numberOf}
 use Rattle.model.specs.Search.{first, searched, tried, hitAt, hitIn, firstHit, better, acceptance}
@@ -18,14 +17,11 @@ use Rattle.model.specs.declared.FilterNumber.{FilterNumber}
 use Rattle.model.specs.declared.FilterClass.{FilterClass}
 use Rattle.model.specs.declared.Hit.{Hit}
 use Rattle.model.specs.declared.Hit.the-variants.{Filter, Nothing}
-use Rattle.model.specs.declared.Acceptance.{Acceptance}
 use Rattle.model.proofs.FirstHit.{lower as below, first-at, FirstOfRow, nowhere, at, first-of-row, nothing-no-filter}
-use Rattle.filter.specs.Compared.{ofBanks, upToFirst, takesFrame, triedAfter, compared}
+use Rattle.filter.specs.Compared.{triedAfter, compared}
 use Rattle.filter.specs.Places.{hitOf, numberAt, among, firstOf, FirstIn, Best, winnerOf, lower, resultOf}
 use Rattle.filter.specs.declared.FirstMatch.{FirstMatch}
 use Rattle.filter.specs.declared.BestClass.{BestClass}
-use Rattle.filter.specs.declared.WinningFilter.{WinningFilter}
-use Rattle.filter.specs.declared.SearchResult.{SearchResult}
 use Rattle.filter.proofs.BankWords.{no-bit, searched-belongs}
 use Rattle.filter.proofs.Candidates.{of-banks-same}
 use Rattle.filter.proofs.Classes.{hit-found, first-of-same, nothing-found, nothing-compared}

@@ -1,8 +1,7 @@
 -- What a search finds in one class, and the class that wins. Assumes nothing.
 use mathlib.Core.Path.{_≡_, refl, sym, ap, _∙_}
 use mathlib.Core.Bool.{Bool, true, false, _||_}
-use mathlib.Core.List.{List, [], _∷_, _++_, append-nil}
-use mathlib.Core.Logic.{inl, inr}
+use mathlib.Core.List.{List, [], _∷_}
 use Prim.Native.Nat.{ℕ, zero, suc, _+_, _/_, _%_, _^_, _≤_, _<_}
 use native.Mathlib.Nat.{add-zero}
 use native.Mathlib.Omega.{arith}
@@ -11,7 +10,7 @@ use lib.Bits.{bitAnd, and-zero-l}
 use lib.Dec.{eqb, ltb}
 use lib.ListN.{length, length-append}
 use Rattle.model.specs.Base.{pick, bit}
-use Rattle.model.specs.Banks.{bank, classOf, rank, width, own, numberOf}
+use Rattle.model.specs.Banks.{bank, classOf, rank, own, numberOf}
 use Rattle.model.specs.Search.{first, searched, tried, hitAt, hitIn, firstHit, better, orNext, chosen, acceptance}
 use Rattle.model.specs.declared.Filters.{Filters}
 use Rattle.model.specs.declared.Bank.{Bank}
@@ -25,8 +24,8 @@ use Rattle.model.specs.declared.Hit.the-variants.{Filter, Nothing}
 use Rattle.model.specs.declared.Acceptance.{Acceptance}
 use Rattle.model.specs.declared.Acceptance.the-variants.{Into, Rejected}
 use Rattle.model.proofs.Preference.{last-class}
-use Rattle.filter.specs.Compared.{Candidate, ofBanks, row, upToFirst, takesFrame, upToMatch, triedAfter, comparedIn, isInto, upToClass, comparedFilters, compared}
-use Rattle.filter.specs.Places.{hitOf, among, firstOf, FirstIn, Rest, Leads, anyPlace, counted, Best}
+use Rattle.filter.specs.Compared.{Candidate, ofBanks, row, upToFirst, takesFrame, upToMatch, comparedIn, isInto, upToClass, comparedFilters, compared}
+use Rattle.filter.specs.Places.{hitOf, among, firstOf, FirstIn, Leads, anyPlace, counted, Best}
 use Rattle.filter.specs.declared.Place.{Place}
 use Rattle.filter.specs.declared.FirstMatch.{FirstMatch}
 use Rattle.filter.specs.declared.Leading.{Leading}

@@ -2,7 +2,7 @@
 use mathlib.Core.Path.{_≡_, refl, sym, ap, _∙_}
 use mathlib.Core.Bool.{Bool, true, false, not, _&&_, _||_}
 use mathlib.Core.Logic.{_⊎_, inl, inr}
-use Prim.Native.Nat.{ℕ, zero, suc, _+_, _-_, _*_, _/_, _%_, _^_, _≤_, _<_}
+use Prim.Native.Nat.{ℕ, suc, _+_, _-_, _*_, _/_, _%_, _^_, _≤_, _<_}
 use native.Mathlib.Nat.{le-refl}
 use native.Mathlib.Decide.{le-ind}
 use native.Mathlib.Omega.{arith}
@@ -11,14 +11,14 @@ use lib.Bits.{bitAnd, and-le-l}
 use lib.Count.{trailingZeros}
 use lib.Dec.{eqb, ltb, leb}
 use lib.Pow.{shr-shr, shr-le}
-use Rattle.model.specs.Base.{pick, bit, sum}
+use Rattle.model.specs.Base.{bit, sum}
 use Rattle.model.specs.Banks.{bank, classOf, classBy, width, belongs, share, numbersBelow, firstNumber}
 use Rattle.model.specs.declared.Filters.{Filters}
 use Rattle.model.specs.declared.Bank.{Bank}
 use Rattle.model.specs.declared.Fifo.{Fifo}
-use Rattle.model.specs.declared.Fifo.the-variants.{F0, F1}
+use Rattle.model.specs.declared.Fifo.the-variants.{F1}
 use Rattle.model.proofs.Digits.{for-digit}
-use Rattle.model.proofs.FirstHit.{lower, width-le}
+use Rattle.model.proofs.FirstHit.{lower}
 use Rattle.model.proofs.FilterNumbers.{numbers-below-le}
 use Rattle.model.proofs.LowestNumber.{sum-up}
 use Rattle.filter.proofs.BankWords.{and-bit, not-bit}

@@ -1,13 +1,13 @@
 -- A search that has passed some banks of a word: no filter of theirs takes the frame, and all of them have been compared. Assumes nothing.
 use mathlib.Core.Path.{_≡_, refl, sym, _∙_}
-use mathlib.Core.Bool.{Bool, true, false}
+use mathlib.Core.Bool.{true, false}
 use mathlib.Core.List.{List}
 use mathlib.Core.Logic.{inl, inr}
 use Prim.Native.Nat.{ℕ, zero, suc, _+_, _*_, _≤_, _<_}
 use native.Mathlib.Omega.{arith}
 use lib.Count.{trailingZeros}
 use lib.ListN.{length}
-use Rattle.model.specs.Base.{pick, bit, sum}
+use Rattle.model.specs.Base.{bit, sum}
 use Rattle.model.specs.Banks.{bank, width, numberOf}
 use Rattle.model.specs.Search.{first, hitAt}
 use Rattle.model.specs.declared.Filters.{Filters}

@@ -2,7 +2,7 @@
 use mathlib.Core.Path.{_≡_, refl, sym, ap, _∙_}
 use mathlib.Core.Bool.{Bool, true, false, not, _&&_}
 use mathlib.Core.List.{List, [], _∷_, List·Memᴰ, Memᴰ·append-left, Memᴰ·append-right}
-use mathlib.Core.Logic.{_⊎_, inl, inr}
+use mathlib.Core.Logic.{inl, inr}
 use Prim.Native.Nat.{ℕ, zero, suc, _+_, _≤_, _<_}
 use native.Mathlib.Nat.{le-refl, le-antisymm}
 use native.Mathlib.Omega.{arith}
@@ -11,7 +11,7 @@ use lib.Dec.{eqb, ltb}
 use lib.ListN.{length, length-append}
 use Rattle.model.specs.Base.{pick, bit, sum}
 use Rattle.model.specs.Banks.{bank, filterNumber, isActive, classOf, rank, width, belongs, share, firstNumber, numberOf}
-use Rattle.model.specs.Search.{searched, tried, firstHit, better, acceptance}
+use Rattle.model.specs.Search.{searched, tried, firstHit, better}
 use Rattle.model.specs.Filtering.{NumberNoLater, Accepted}
 use Rattle.model.specs.declared.Filters.{Filters}
 use Rattle.model.specs.declared.Bank.{Bank}
@@ -22,11 +22,10 @@ use Rattle.model.specs.declared.Fifo.{Fifo}
 use Rattle.model.specs.declared.Fifo.the-variants.{F0, F1}
 use Rattle.model.specs.declared.Hit.{Hit}
 use Rattle.model.specs.declared.Hit.the-variants.{Filter, Nothing}
-use Rattle.model.specs.declared.Acceptance.the-variants.{Into, Rejected}
 use Rattle.model.proofs.Acceptances.{rejected-iff-none-takes}
 use Rattle.model.proofs.FirstHit.{lower}
 use Rattle.model.proofs.LowestNumber.{rank-injective, tried-share, sum-up, lowest, first-hit-active}
-use Rattle.filter.specs.Compared.{Candidate, candidate, ofBank, ofBanks, upToFirst, takesFrame, upToMatch, canWin, triedAfter, comparedIn, isInto, upToClass, comparedFilters, compared, activeFilters, betterFilters, Comparisons}
+use Rattle.filter.specs.Compared.{candidate, ofBanks, upToFirst, takesFrame, upToMatch, canWin, triedAfter, comparedIn, isInto, upToClass, comparedFilters, compared, activeFilters, betterFilters, Comparisons}
 use Rattle.filter.specs.Places.{winnerOf, resultOf}
 use Rattle.filter.proofs.BankWords.{no-bit}
 use Rattle.filter.proofs.Candidates.{sum-same, of-banks-same, of-banks-skip, NoneOf, taken-at, cut-prefix}

@@ -1,19 +1,18 @@
 -- What stands at a place, and the number that stands for a winner and tells its acceptance. Assumes nothing.
-use mathlib.Core.Path.{_≡_, refl, sym, ap, _∙_}
-use mathlib.Core.Bool.{Bool, true, false, _||_}
-use mathlib.Core.List.{List, [], _∷_}
+use mathlib.Core.Path.{_≡_, refl, ap, _∙_}
+use mathlib.Core.Bool.{Bool, true, false}
+use mathlib.Core.List.{List}
 use Prim.Native.Nat.{ℕ, _+_, _*_, _/_, _%_, _≤_, _<_}
 use native.Mathlib.Omega.{arith}
 use borrow.Author.Tests.{ltb-true, ltb-false, lt-ltb, le-ltb, lt-leb}
 use lib.Dec.{ltb}
 use Rattle.model.specs.Base.{pick}
 use Rattle.model.specs.Banks.{bank, classOf, banksBelow, firstNumber, numberOf}
-use Rattle.model.specs.Search.{first, searched, tried, hitAt, hitIn, firstHit, better, orNext, chosen, acceptance}
+use Rattle.model.specs.Search.{first, searched, tried, hitAt, hitIn, firstHit, better, chosen, acceptance}
 use Rattle.model.specs.declared.Filters.{Filters}
 use Rattle.model.specs.declared.Fifo.{Fifo}
 use Rattle.model.specs.declared.Fifo.the-variants.{F0, F1}
 use Rattle.model.specs.declared.FilterNumber.{FilterNumber}
-use Rattle.model.specs.declared.FilterClass.{FilterClass}
 use Rattle.model.specs.declared.Hit.{Hit}
 use Rattle.model.specs.declared.Hit.the-variants.{Filter, Nothing}
 use Rattle.model.specs.declared.Acceptance.{Acceptance}
@@ -21,7 +20,6 @@ use Rattle.model.specs.declared.Acceptance.the-variants.{Into, Rejected}
 use Rattle.model.proofs.FirstHit.{nothing-no-filter}
 use Rattle.model.proofs.FilterNumbers.{numbers-below-le, fmi-small}
 use Rattle.model.proofs.Numbering.{banks-below-le}
-use Rattle.model.proofs.Preference.{last-class}
 use Rattle.filter.specs.Places.{Within, hitOf, numberAt, winnerOf, acceptedBy, lower, filtersOf}
 use Rattle.filter.specs.declared.Place.{Place}
 

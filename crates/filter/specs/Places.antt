@@ -1,7 +1,7 @@
 -- A place in the search, what stands at it, and what each part of the search finds. Document 01: "Order, filters, storage"; 02: Q-3.
 -- A place is four times the bank's number and the filter's place in the bank; 128 stands for none.
 -- v are the words R1 and R2 of the banks in turn, w is a frame's identifier word.
-use mathlib.Core.Bool.{Bool, true, false, _||_}
+use mathlib.Core.Bool.{Bool, false, _||_}
 use mathlib.Core.Path.{_≡_}
 use mathlib.Core.List.{List}
 use Prim.Native.Nat.{ℕ, _+_, _*_, _/_, _%_, _≤_, _<_}

@@ -10,8 +10,8 @@ use borrow.Author.Needs.{needs}
 use lib.ListN.{length}
 use Rattle.model.specs.Banks.{bank}
 use Rattle.model.proofs.FirstHit.{width-le}
-use Rattle.filter.specs.Compared.{candidate, upToFirst, takesFrame}
-use Rattle.filter.specs.Places.{hitOf, among}
+use Rattle.filter.specs.Compared.{candidate, takesFrame}
+use Rattle.filter.specs.Places.{hitOf}
 use Rattle.filter.proofs.Candidates.{cut-nowhere, length-cut}
 use Rattle.filter.proofs.LeftBanks.{lowest-set, without-less}
 use Rattle.filter.proofs.Passed.{Passed, no-match, match-at, all-left, at-lowest, all-tried, bank-passed, all-passed}

@@ -1,12 +1,9 @@
 -- The word of the searched banks is part of that of the active banks of the class: `searched-bit`.
-use mathlib.Core.Path.{_≡_, sym, _∙_}
+use mathlib.Core.Path.{sym, _∙_}
 use Prim.Native.Nat.{_^_, _<_}
 use native.Mathlib.Omega.{arith}
 use borrow.Author.Needs.{needs}
-use Rattle.model.specs.Search.{firstHit}
 use Rattle.model.specs.declared.Fifo.the-variants.{F0, F1}
-use Rattle.model.specs.declared.Hit.the-variants.{Nothing}
-use Rattle.filter.specs.Places.{hitOf}
 use Rattle.filter.proofs.BankWords.{searched-bit}
 use Rattle.filter.proofs.Classes.{hit-none, found-in, none-of-class, none-compared}
 use Rattle.filter.proofs.Comparing.{compared-in-both}
