@@ -169,12 +169,13 @@ fn of_class(g: Filters, k: FilterClass) -> u32
 // A place in the search: four times the bank's number and the filter's place in the bank; 128 stands for none.
 struct Place(u32);
 
+// Where the first match stands, and how many filters were compared: those up to it, or all where there is none.
 struct FirstMatch {
     place: Place,
     compared: u32,
 }
 
-// The first match in the banks of the word `part`, often none. The lowest bank that is left comes next.
+// The first match in the banks of the word `part`. The lowest bank that is left comes next.
 fn first_match(banks: &[u32; 28], w: u32, short: u32, k: FilterClass, part: u32) -> FirstMatch
     requires { ⌜ short ≡ shortWord w ⌝ }
     ensures { λ r. ⌜ places.FirstIn (now (banks .entry)) w k part r ⌝ }
@@ -212,7 +213,8 @@ fn first_match(banks: &[u32; 28], w: u32, short: u32, k: FilterClass, part: u32)
 
 // ---- the first match of a class, in FIFO 0 if it has one
 
-// The first match in FIFO 0; where it has none, the first in FIFO 1. `rest` are the banks of FIFO 1 that are left to search.
+// The first match in FIFO 0; where it has none, the first in FIFO 1. `rest` is the word of the banks of FIFO 1 that are left to
+// search.
 struct Leading {
     f0: Place,
     f1: Place,
@@ -263,6 +265,7 @@ fn any_place(p: Leading) -> bool
 
 // ---- the class that wins
 
+// The class that was searched last, and the comparisons of all so far.
 struct BestClass {
     class: FilterClass,
     leading: Leading,
@@ -372,7 +375,8 @@ fn can_win(g: Filters, n: u32, part: u32) -> u32
     }
 }
 
-// The four classes by their names, so that each keeps a loop of its own.
+// A function for each class, so that the compiler makes a loop for each: a class that is looked up in the loop costs more than the
+// comparisons.
 fn list32_match(banks: &[u32; 28], w: u32, short: u32, part: u32) -> FirstMatch
     requires { ⌜ short ≡ shortWord w ⌝ }
     ensures { λ r. ⌜ places.FirstIn (now (banks .entry)) w List32 part r ⌝ }
@@ -425,7 +429,7 @@ pub struct SearchResult {
     pub compared: u32,
 }
 
-// Of the numbers of the first matches in FIFO 0 and in FIFO 1, 255 for none.
+// The winner by the numbers of the first matches in FIFO 0 and in FIFO 1, 255 for none.
 fn lower(n0: u32, n1: u32) -> WinningFilter
     requires { ⌜ (n0 ≤ 255) × (n1 ≤ 255) ⌝ }
     ensures { λ r. ⌜ r ≡ places.lower n0 n1 ⌝ }
@@ -465,7 +469,7 @@ fn after_fifo0(g: Filters, banks: &[u32; 28], w: u32, short: u32, b: BestClass) 
     }
 }
 
-// Numbers, and not the filters' struct: this function stays a call, and what it is lent stays in memory.
+// The whole search.
 pub fn search(
     mode: u32,
     scale: u32,
@@ -502,7 +506,8 @@ pub fn search(
     }
 }
 
-// The winner alone, without the count.
+// The winner alone, which is all that a step needs. Numbers, and not the filters' struct: this function stays a call, and what it
+// is lent stays in memory.
 pub fn winner(
     mode: u32,
     scale: u32,
