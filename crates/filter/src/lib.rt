@@ -1,6 +1,5 @@
 // The filter that a frame passes: the filters of a bank, their numbers, and the search.
 // A word of `Filters` has a bit for each bank, `banks` has R1 and R2 of each bank in turn, w is the frame's identifier word.
-// n is the number of banks.
 ghost use mathlib.Core.Bool.{true, _&&_};
 ghost use mathlib.Core.Path.{_≡_};
 ghost use Prim.Native.Nat.{ℕ, _+_, _<_, _≤_};
