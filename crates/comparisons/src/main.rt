@@ -80,11 +80,15 @@ fn complain(text: &[u8]) {
     io::write_all(STDERR_FILENO, text);
 }
 
-// The text goes to an open file; whether that went well.
+// The first n bytes go to an open file; whether that went well.
+fn sent_first(text: &[u8], n: usize, file: i32) -> bool {
+    let k = least(n, text.len());
+    io::write_all(file, &text[0..k])
+}
+
 fn sent(l: Line, file: i32) -> bool {
     let bytes = l.bytes;
-    let n = least(l.at, bytes.len());
-    io::write_all(file, &bytes[..n])
+    sent_first(&bytes, l.at, file)
 }
 
 // ---- a turn of the loop
@@ -162,9 +166,10 @@ fn stepped(s: Session, e: Step, length: usize) -> Session {
     let z = s.controller;
     let c = z.core;
     let a = controller::step(z, e);
+    let next = a.controller;
     let n = with_record(s.counts, length);
     let mut t = s;
-    t.controller = a.controller;
+    t.controller = next;
     t.input = stream::passed(s.input, length);
     t.counts = n;
     let x = searches::searched_word(c, e, a.code);

@@ -43,7 +43,8 @@ fn accepted_word(c: Core, e: Step) -> Searched
         Step::Activity => Searched::Nothing,
         Step::Start => Searched::Nothing,
         Step::Outcome(r) => {
-            let s = c.transmit.queue.transmitting;
+            let q = c.transmit.queue;
+            let s = q.transmitting;
             looped_word(s, c, r)
         }
         Step::Receive(x) => Searched::Word(x.identifier),
