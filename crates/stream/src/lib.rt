@@ -1,4 +1,5 @@
 // A script of any length, read a piece at a time.
+ghost use mathlib.Core.Bool.{false};
 ghost use mathlib.Core.Path.{_≡_};
 ghost use lib.ListN.{length};
 ghost use Rattle.io.specs.Counts.{Counts};
@@ -45,5 +46,56 @@ pub fn refilled(space: &mut [u8], from: usize, to: usize) -> Filled
         length: held + more,
         ended: got == 0,
         failed: got < 0,
+    }
+}
+
+// ---- what is held of the input
+
+// The bytes of a space that are not used yet lie from `place` up to `filled`; whether the input is at its end, and whether by a failure.
+pub struct Input {
+    pub place: usize,
+    pub filled: usize,
+    pub ended: bool,
+    pub failed: bool,
+}
+
+pub fn nothing_read() -> Input
+    ensures { λ r. ⌜ r ≡ record { place = 0; filled = 0; ended = false; failed = false } ⌝ }
+{
+    Input {
+        place: 0,
+        filled: 0,
+        ended: false,
+        failed: false,
+    }
+}
+
+// Whether there is more to read before n bytes can be looked at.
+pub fn wants(i: Input, n: usize) -> bool
+    ensures { λ r. ⌜ r ≡ spaces.wants i n ⌝ }
+{
+    let used = bits::least(i.place, i.filled);
+    !i.ended & (i.filled - used < n)
+}
+
+// n bytes more are used.
+pub fn passed(i: Input, n: usize) -> Input
+    ensures { λ r. ⌜ r ≡ spaces.passed i n ⌝ }
+{
+    let mut j = i;
+    j.place = std::num::wrapping_add_usize(i.place, n);
+    j
+}
+
+// What is not used yet goes to the front, and more is read behind it.
+pub fn read_on(i: Input, space: &mut [u8]) -> Input
+    ensures { λ r. ⌜ spaces.ReadOn i (now (space .entry)) (now (space .exit)) r ⌝ }
+{
+    let f = refilled(space, i.place, i.filled);
+    Input {
+        place: 0,
+        filled: f.length,
+        ended: f.ended | f.failed,
+        failed: f.failed,
     }
 }

@@ -8,6 +8,7 @@ use libc::STDOUT_FILENO;
 use model::Controller;
 use model::Reading;
 use model::Step;
+use stream::Input;
 use text::Line;
 
 // No record has more bytes.
@@ -17,14 +18,6 @@ const LONGEST_RECORD: usize = 16;
 const ENOUGH_TEXT: usize = 61440;
 
 // ---- input and output
-
-// The part of the input that is not used yet; whether the input is at its end, and whether by a failure.
-struct Input {
-    place: usize,
-    filled: usize,
-    ended: bool,
-    failed: bool,
-}
 
 // The records so far, how many of them were refused, the bytes that they take, the interrupt lines that are up, the text
 // that waits, whether to go on.
@@ -98,15 +91,9 @@ fn next_turn(rest: &[u8]) -> Turn {
 }
 
 // What is not used yet goes to the start of the input, and more is read behind it.
-fn read_on(p: Progress, input: &mut [u8], place: usize, filled: usize) -> Progress {
-    let f = stream::refilled(input, place, filled);
-    complain_if(f.failed, b"trace: standard input can't be read\n");
-    let i = Input {
-        place: 0,
-        filled: f.length,
-        ended: f.ended | f.failed,
-        failed: f.failed,
-    };
+fn read_on(p: Progress, input: &mut [u8]) -> Progress {
+    let i = stream::read_on(p.input, input);
+    complain_if(i.failed, b"trace: standard input can't be read\n");
     let mut q = p;
     q.input = i;
     q
@@ -115,9 +102,7 @@ fn read_on(p: Progress, input: &mut [u8], place: usize, filled: usize) -> Progre
 // The text goes out, or more is read, or the next record is looked at.
 fn turn_of(p: Progress, input: &mut [u8], out: &[u8]) -> Turned {
     let i = p.input;
-    let filled = least(i.filled, input.len());
-    let place = least(i.place, filled);
-    let wants = !i.ended & (filled - place < LONGEST_RECORD);
+    let wants = stream::wants(i, LONGEST_RECORD);
     if (ENOUGH_TEXT < p.text) | (wants & (0 < p.text)) {
         return Turned {
             progress: flushed(p, out),
@@ -126,10 +111,12 @@ fn turn_of(p: Progress, input: &mut [u8], out: &[u8]) -> Turned {
     }
     if wants {
         return Turned {
-            progress: read_on(p, input, place, filled),
+            progress: read_on(p, input),
             turn: Turn::Waits,
         };
     }
+    let filled = least(i.filled, input.len());
+    let place = least(i.place, filled);
     Turned {
         progress: p,
         turn: next_turn(&input[place..filled]),
@@ -145,7 +132,6 @@ struct Report {
 }
 
 fn traced(p: Progress, q: usize, code: u8, lines: u8) -> Progress {
-    let i = p.input;
     Progress {
         records: std::num::wrapping_add_u64(p.records, 1),
         refused: std::num::wrapping_add_u64(p.refused, bits::one(code != 0) as u64),
@@ -153,12 +139,7 @@ fn traced(p: Progress, q: usize, code: u8, lines: u8) -> Progress {
         text: p.text,
         lines: lines,
         going: true,
-        input: Input {
-            place: std::num::wrapping_add_usize(i.place, q),
-            filled: i.filled,
-            ended: i.ended,
-            failed: i.failed,
-        },
+        input: stream::passed(p.input, q),
     }
 }
 
@@ -173,7 +154,7 @@ fn stop(p: Progress, l: Line, why: u32) -> Report {
 }
 
 fn complain_of(n: u64, place: u64, f: Fault) {
-    let l = wording::complaint(n, place, f);
+    let l = wording::complaint(b"trace", n, place, f);
     let bytes = l.bytes;
     complain_first(&bytes, l.at);
 }
@@ -218,12 +199,7 @@ fn begun() -> Progress {
         text: 0,
         lines: 0,
         going: true,
-        input: Input {
-            place: 0,
-            filled: 0,
-            ended: false,
-            failed: false,
-        },
+        input: stream::nothing_read(),
     }
 }
 

@@ -111,11 +111,11 @@ pub fn unread_line(n: u64, place: u64, f: Fault, up: u8) -> Line
     byte(lines(c, up), b'\n')
 }
 
-// The same for standard error.
-pub fn complaint(n: u64, place: u64, f: Fault) -> Line
+// The same for standard error, by the program that says it.
+pub fn complaint(program: &[u8], n: u64, place: u64, f: Fault) -> Line
     ensures { λ r. ⌜ lines.EndsLine r ⌝ }
 {
-    let a = said(text::empty(), b"trace: record %", 0, n);
+    let a = said(put(text::empty(), program), b": record %", 0, n);
     let b = said(a, b" at byte %: ", 0, place);
     byte(fault(b, f), b'\n')
 }
