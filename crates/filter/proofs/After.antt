@@ -1,14 +1,14 @@
 -- FIFO 1 after FIFO 0's match: the banks that are left out can't win, and the others are all that is compared. Assumes nothing.
 use mathlib.Core.Path.{_≡_, refl, sym, ap, _∙_}
-use mathlib.Core.Bool.{Bool, true, false, _&&_}
+use mathlib.Core.Bool.{Bool, true, false}
 use mathlib.Core.List.{List}
 use mathlib.Core.Logic.{inl, inr}
-use Prim.Native.Nat.{ℕ, _+_, _*_, _≤_, _<_}
+use Prim.Native.Nat.{ℕ, _+_, _-_, _*_, _%_, _^_, _≤_, _<_}
 use native.Mathlib.Omega.{arith}
 use borrow.Author.Tests.{ltb-false, le-ltb}
 use lib.Dec.{ltb}
-use Rattle.model.specs.Base.{pick, bit}
-use Rattle.model.specs.Banks.{bank, firstWord, secondWord, width, matches, belongs, firstNumber, numberOf}
+use Rattle.model.specs.Base.{pick}
+use Rattle.model.specs.Banks.{bank, filterNumber, firstWord, secondWord, matches, firstNumber, numberOf}
 use Rattle.model.specs.Search.{first, searched, tried, hitAt, hitIn, firstHit, better, acceptance}
 use Rattle.model.specs.declared.Filters.{Filters}
 use Rattle.model.specs.declared.Bank.{Bank}
@@ -19,14 +19,14 @@ use Rattle.model.specs.declared.Hit.{Hit}
 use Rattle.model.specs.declared.Hit.the-variants.{Filter, Nothing}
 use Rattle.model.proofs.FirstHit.{lower as below, first-at, FirstOfRow, nowhere, at, first-of-row, nothing-no-filter}
 use Rattle.filter.specs.Compared.{triedAfter, compared}
-use Rattle.filter.specs.Places.{hitOf, numberAt, among, firstOf, FirstIn, Best, winnerOf, lower, resultOf}
+use Rattle.filter.specs.Places.{hitOf, numberAt, among, limited, firstOf, FirstIn, Best, OneLess, CanWin, winnerOf, lower, resultOf}
 use Rattle.filter.specs.declared.FirstMatch.{FirstMatch}
 use Rattle.filter.specs.declared.BestClass.{BestClass}
-use Rattle.filter.proofs.BankWords.{no-bit, searched-belongs}
+use Rattle.filter.proofs.BankWords.{no-bit}
 use Rattle.filter.proofs.Candidates.{of-banks-same}
 use Rattle.filter.proofs.Classes.{hit-found, first-of-same, nothing-found, nothing-compared}
 use Rattle.filter.proofs.Numbered.{numbers-up, first-number-of-bank}
-use Rattle.filter.proofs.Passed.{nothing-below}
+use Rattle.filter.proofs.Passed.{nothing-below, limited-none}
 use Rattle.filter.proofs.Winners.{number-found, lower-wins}
 
 -- ---- what is left out can't win
@@ -101,35 +101,25 @@ module _ (g : Filters) (v : List ℕ) (w : ℕ) (k : FilterClass) (x : FilterNum
 
 -- ---- the result
 
-of-both : (a b : Bool) (m : ℕ) → pick (a && b) m 0 ≡ pick b (pick a m 0) 0
-of-both true true m = refl
-of-both true false m = refl
-of-both false true m = refl
-of-both false false m = refl
-
 module _ (g : Filters) (v : List ℕ) (w : ℕ) (b : BestClass) (s : Best g v w b) (found : b .leading .f0 .0 < 128) where
   abbrev after : Bank → ℕ
   after = triedAfter 14 g (b .class) (hitOf g F0 (b .leading .f0))
 
   -- the banks of FIFO 1 that can win have the filters that are looked at
-  pub can-win-tried : (n y : ℕ) → n ≡ numberAt g F0 (b .leading .f0)
-      → ((c : Bank) → c .0 < 14 → bit (c .0) y ≡ (bit (c .0) (b .leading .rest) && ltb (firstNumber 14 g F1 c .0) n))
-      → (i : ℕ) → i < 14 → among (b .class) y (bank i) ≡ after (bank i)
-  unfolding triedAfter tried
-  can-win-tried n y e h i l =
+  pub can-win-tried : (n y m : ℕ) → n ≡ numberAt g F0 (b .leading .f0) → CanWin g n (b .leading .rest) y → m < 2 ^ 32 → OneLess m n
+      → (i : ℕ) → i < 14 → limited m (among (b .class) y) (bank i) ≡ after (bank i)
+  can-win-tried n y m e h fits less i l =
       let f = hit-found g F0 (b .leading .f0) found in
-      rw (h (bank i) l, s .rest found (bank i) l, e, number-found g F0 (b .leading .f0) (f .0) (f .1), f .1)
-      (of-both (searched g (b .class) F1 (bank i)) (ltb (firstNumber 14 g F1 (bank i) .0) (f .0 .0)) (width (b .class)))
-
-  -- the rest is in FIFO 1
-  pub rest-in-fifo1 : (c : Bank) → c .0 < 14 → bit (c .0) (b .leading .rest) ≡ true → belongs F1 g c ≡ true
-  rest-in-fifo1 c l e = searched-belongs g (b .class) F1 c (sym (s .rest found c l) ∙ e)
+      let number = e ∙ number-found g F0 (b .leading .f0) (f .0) (f .1) in
+      h (b .class) m (s .rest found) fits less i l
+      ∙ ap (λ (t : Hit). triedAfter 14 g (b .class) t (bank i)) (ap (λ (t : ℕ). Filter (filterNumber t)) number ∙ sym (f .1))
 
   -- with none of them no filter is looked at
-  pub none-can-win : (n y : ℕ) → n ≡ numberAt g F0 (b .leading .f0)
-      → ((c : Bank) → c .0 < 14 → bit (c .0) y ≡ (bit (c .0) (b .leading .rest) && ltb (firstNumber 14 g F1 c .0) n))
+  pub none-can-win : (n y : ℕ) → n < 2 ^ 32 → n ≡ numberAt g F0 (b .leading .f0) → CanWin g n (b .leading .rest) y
       → y ≡ 0 → (i : ℕ) → i < 14 → after (bank i) ≡ 0
-  none-can-win n y e h z i l = sym (can-win-tried n y e h i l) ∙ rw (z, no-bit i)
+  none-can-win n y small e h z i l =
+      let none : among (b .class) y (bank i) ≡ 0 = rw (z, no-bit i) in
+      sym (can-win-tried n y ((n + (2 ^ 32 - 1)) % 2 ^ 32) e h (omega arith) (omega arith) i l) ∙ limited-none _ (among (b .class) y) (bank i) none
 
   pub none-left : b .leading .rest ≡ 0 → (i : ℕ) → i < 14 → after (bank i) ≡ 0
   unfolding triedAfter tried
@@ -162,14 +152,14 @@ module _ (g : Filters) (v : List ℕ) (w : ℕ) (b : BestClass) (s : Best g v w 
       rw (← won, ← count, same)
 
   -- both, where some can
-  pub of-two : (n y : ℕ) (p : FirstMatch) → n ≡ numberAt g F0 (b .leading .f0) → ((i : ℕ) → i < 14 → among (b .class) y (bank i) ≡ after (bank i))
-      → FirstIn v w (b .class) y p
+  pub of-two : (n y m : ℕ) (p : FirstMatch) → n ≡ numberAt g F0 (b .leading .f0)
+      → ((i : ℕ) → i < 14 → limited m (among (b .class) y) (bank i) ≡ after (bank i)) → FirstIn v w (b .class) y m p
       → record { winner = lower n (numberAt g F1 (p .place)); compared = b .leading .compared + p .compared } ≡ resultOf g v w
   unfolding resultOf
-  of-two n y p e tries m =
-      let hit = m .hit g F1 ∙ first-of-same g v w (b .class) F1 (among (b .class) y) after tries in
+  of-two n y m p e tries q =
+      let hit = q .hit g F1 ∙ first-of-same g v w (b .class) F1 (limited m (among (b .class) y)) after tries in
       let accepted : better (hitOf g F0 (b .leading .f0)) (hitOf g F1 (p .place)) ≡ acceptance 14 g v w = rw hit decided in
       let won = lower-wins g (b .leading .f0) (p .place) ∙ ap winnerOf accepted in
-      let listed = of-banks-same (among (b .class) y) after 14 tries in
-      let count : b .leading .compared + p .compared ≡ compared 14 g v w = omega (arith, s .compared0 found, rw listed at (m .compared)) in
+      let listed = of-banks-same (limited m (among (b .class) y)) after 14 tries in
+      let count : b .leading .compared + p .compared ≡ compared 14 g v w = omega (arith, s .compared0 found, rw listed at (q .compared)) in
       rw (e, won, count)

@@ -2,7 +2,7 @@
 use mathlib.Core.Path.{_≡_, refl, sym, ap, _∙_}
 use mathlib.Core.Bool.{Bool, true, false, _||_}
 use mathlib.Core.List.{List, [], _∷_, _++_, append-assoc, append-nil, List·Memᴰ, List·Memᴰ·head, Memᴰ·append-right}
-use Prim.Native.Nat.{ℕ, zero, suc, _+_, _≤_, _<_}
+use Prim.Native.Nat.{ℕ, zero, suc, _+_, _*_, _≤_, _<_}
 use native.Mathlib.Nat.{le-refl}
 use native.Mathlib.Decide.{le-ind}
 use native.Mathlib.Omega.{arith}
@@ -32,6 +32,23 @@ pub sum-same : (s t : ℕ → ℕ) (n : ℕ) → ((i : ℕ) → i < n → s i �
 unfolding sum
 sum-same s t zero h = refl
 sum-same s t (suc n) h = omega (arith, sum-same s t n (λ i l. h i (omega arith)), h n (omega arith))
+
+pub sum-skip : (s : ℕ → ℕ) (i m : ℕ) → i ≤ m → ((j : ℕ) → i ≤ j → j < m → s j ≡ 0) → sum s m ≡ sum s i
+unfolding sum
+sum-skip s i m h = le-ind (λ (m : ℕ). ((j : ℕ) → i ≤ j → j < m → s j ≡ 0) → sum s m ≡ sum s i)
+    (λ e. refl)
+    (λ m l t e. omega (arith, e m l (omega arith), t (λ j p q. e j p (omega arith))))
+    m h
+
+pub sum-le : (s : ℕ → ℕ) (i m : ℕ) → i ≤ m → sum s i ≤ sum s m
+unfolding sum
+sum-le s i m h = le-ind (λ (m : ℕ). sum s i ≤ sum s m) (le-refl _) (λ m l e. omega arith) m h
+
+-- four for each at the most
+pub sum-four : (s : ℕ → ℕ) (n : ℕ) → ((i : ℕ) → s i ≤ 4) → sum s n ≤ 4 * n
+unfolding sum
+sum-four s zero h = omega arith
+sum-four s (suc n) h = omega (arith, sum-four s n h, h n)
 
 pub length-of-banks : (t : Bank → ℕ) (n : ℕ) → length (ofBanks t n) ≡ sum (λ (i : ℕ). t (bank i)) n
 unfolding ofBanks

@@ -10,7 +10,7 @@ use lib.Bits.{bitAnd, and-zero-l}
 use lib.Dec.{eqb, ltb}
 use lib.ListN.{length, length-append}
 use Rattle.model.specs.Base.{pick, bit}
-use Rattle.model.specs.Banks.{bank, classOf, rank, own, numberOf}
+use Rattle.model.specs.Banks.{bank, classOf, rank, width, own, numberOf}
 use Rattle.model.specs.Search.{first, searched, tried, hitAt, hitIn, firstHit, better, orNext, chosen, acceptance}
 use Rattle.model.specs.declared.Filters.{Filters}
 use Rattle.model.specs.declared.Bank.{Bank}
@@ -23,16 +23,17 @@ use Rattle.model.specs.declared.Hit.{Hit}
 use Rattle.model.specs.declared.Hit.the-variants.{Filter, Nothing}
 use Rattle.model.specs.declared.Acceptance.{Acceptance}
 use Rattle.model.specs.declared.Acceptance.the-variants.{Into, Rejected}
+use Rattle.model.proofs.FirstHit.{width-le}
 use Rattle.model.proofs.Preference.{last-class}
 use Rattle.filter.specs.Compared.{Candidate, ofBanks, row, upToFirst, takesFrame, upToMatch, comparedIn, isInto, upToClass, comparedFilters, compared}
-use Rattle.filter.specs.Places.{hitOf, among, firstOf, FirstIn, Leads, anyPlace, counted, Best}
+use Rattle.filter.specs.Places.{hitOf, among, limited, firstOf, FirstIn, Leads, anyPlace, counted, Best}
 use Rattle.filter.specs.declared.Place.{Place}
 use Rattle.filter.specs.declared.FirstMatch.{FirstMatch}
 use Rattle.filter.specs.declared.Leading.{Leading}
 use Rattle.filter.proofs.BankWords.{no-bit, searched-bit}
-use Rattle.filter.proofs.Candidates.{of-banks-same, of-banks-skip}
+use Rattle.filter.proofs.Candidates.{sum-four, of-banks-same, of-banks-skip}
 use Rattle.filter.proofs.Comparing.{length-compared, compared-in-both}
-use Rattle.filter.proofs.Passed.{no-match}
+use Rattle.filter.proofs.Passed.{no-match, limited-all}
 
 -- ---- the filter at a place, or none
 
@@ -77,13 +78,25 @@ module _ (g : Filters) (v : List ℕ) (w : ℕ) (k : FilterClass) where
   unfolding tried
   among-tried f x e i h = rw (e (bank i) (omega arith))
 
+  -- where nothing is left out
+  unlimited : (x i : ℕ) → i < 14 → limited 0xffffffff (among k x) (bank i) ≡ among k x (bank i)
+  unlimited x i h = limited-all 0xffffffff (among k x) (bank i) (omega (arith, sum-four (λ (j : ℕ). among k x (bank j)) i (λ j. few (bit j x))))
+    where
+      few : (b : Bool) → pick b (width k) 0 ≤ 4
+      few true = width-le k
+      few false = omega arith
+
+  all-tried : (f : Fifo) (x : ℕ) → ((b : Bank) → b .0 < 32 → bit (b .0) x ≡ searched g k f b)
+      → (i : ℕ) → i < 14 → limited 0xffffffff (among k x) (bank i) ≡ tried g k f (bank i)
+  all-tried f x e i h = unlimited x i h ∙ among-tried f x e i h
+
   -- the first match in the word of the banks that are searched is that of the class in the FIFO
-  pub found-in : (f : Fifo) (x : ℕ) (p : FirstMatch) → FirstIn v w k x p → ((b : Bank) → b .0 < 32 → bit (b .0) x ≡ searched g k f b)
+  pub found-in : (f : Fifo) (x : ℕ) (p : FirstMatch) → FirstIn v w k x 0xffffffff p → ((b : Bank) → b .0 < 32 → bit (b .0) x ≡ searched g k f b)
       → (hitOf g f (p .place) ≡ firstHit 14 g v w k f) × (p .compared ≡ length (upToMatch 14 g v w k f))
   unfolding upToMatch
   found-in f x p s e = (
-    s .hit g f ∙ first-of-same g v w k f _ _ (among-tried f x e) ∙ first-of-tried f,
-    s .compared ∙ ap (λ (l : List Candidate). length (upToFirst (takesFrame v w k) l)) (of-banks-same _ _ 14 (among-tried f x e)),
+    s .hit g f ∙ first-of-same g v w k f _ _ (all-tried f x e) ∙ first-of-tried f,
+    s .compared ∙ ap (λ (l : List Candidate). length (upToFirst (takesFrame v w k) l)) (of-banks-same _ _ 14 (all-tried f x e)),
   )
 
   -- where no active bank is of the class; x is the word of the banks of the class

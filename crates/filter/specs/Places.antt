@@ -4,10 +4,10 @@
 use mathlib.Core.Bool.{Bool, false, _||_}
 use mathlib.Core.Path.{_≡_}
 use mathlib.Core.List.{List}
-use Prim.Native.Nat.{ℕ, _+_, _*_, _/_, _%_, _≤_, _<_}
+use Prim.Native.Nat.{ℕ, _+_, _*_, _/_, _%_, _^_, _≤_, _<_}
 use lib.Dec.{eqb, ltb, leb}
 use lib.ListN.{length}
-use Rattle.model.specs.Base.{pick, bit}
+use Rattle.model.specs.Base.{pick, bit, sum}
 use Rattle.model.specs.Banks.{bank, filterNumber, width, firstNumber, numberOf}
 use Rattle.model.specs.Search.{first, searched, hitAt, firstHit, better, acceptance}
 use Rattle.model.specs.declared.Filters.{Filters}
@@ -47,15 +47,22 @@ numberAt g f p = pick (ltb (p .0) 128) (firstNumber 14 g f (bank (p .0 / 4)) .0 
 abbrev pub among : FilterClass → ℕ → Bank → ℕ
 among k x b = pick (bit (b .0) x) (width k) 0
 
+-- of t b filters of each bank b, those of the banks with no more than m of them before
+unfoldable pub limited : ℕ → (Bank → ℕ) → Bank → ℕ
+limited m t b = pick (leb (sum (λ (i : ℕ). t (bank i)) (b .0)) m) (t b) 0
+
 -- of t b filters of each bank b, the first that matches; `firstHit` is this of the filters that are `tried`
 unfoldable pub firstOf : Filters → List ℕ → ℕ → FilterClass → Fifo → (Bank → ℕ) → Hit
 firstOf g v w k f t = first (λ (i : ℕ). first (hitAt 14 g v w k f (bank i)) (t (bank i))) 14
 
--- the first match in the banks of the word x, and how many filters were compared
-pub record FirstIn (v : List ℕ) (w : ℕ) (k : FilterClass) (x : ℕ) (p : FirstMatch) : Type 0 where
+unfoldable pub noMatch : ℕ → FirstMatch
+noMatch c = record { place = record { 0 = 128 }; compared = c }
+
+-- the first match in the banks of the word x with no more than m filters before them, and how many filters were compared
+pub record FirstIn (v : List ℕ) (w : ℕ) (k : FilterClass) (x m : ℕ) (p : FirstMatch) : Type 0 where
   pub within : Within (p .place)
-  pub hit : (g : Filters) (f : Fifo) → hitOf g f (p .place) ≡ firstOf g v w k f (among k x)
-  pub compared : p .compared ≡ length (upToFirst (takesFrame v w k) (ofBanks (among k x) 14))
+  pub hit : (g : Filters) (f : Fifo) → hitOf g f (p .place) ≡ firstOf g v w k f (limited m (among k x))
+  pub compared : p .compared ≡ length (upToFirst (takesFrame v w k) (ofBanks (limited m (among k x)) 14))
   pub few : p .compared ≤ 56
 
 -- ---- one class: FIFO 0's first match, or where it has none FIFO 1's
@@ -98,6 +105,17 @@ pub record Best (g : Filters) (v : List ℕ) (w : ℕ) (b : BestClass) : Type 0 
       ≡ compared 14 g v w
   pub accepted1 : 128 ≤ b .leading .f0 .0 → better Nothing (hitOf g F1 (b .leading .f1)) ≡ acceptance 14 g v w
   pub compared1 : 128 ≤ b .leading .f0 .0 → b .leading .compared ≡ compared 14 g v w
+
+-- ---- FIFO 1 after number n of FIFO 0
+
+-- m is one less than n
+abbrev pub OneLess : ℕ → ℕ → Type 0
+OneLess m n = (m + 1) % 2 ^ 32 ≡ n
+
+-- in the word y, with no more than m filters before them, are the filters of the class that are looked at
+abbrev pub CanWin : Filters → ℕ → ℕ → ℕ → Type 0
+CanWin g n x y = (k : FilterClass) (m : ℕ) → Rest g k x → m < 2 ^ 32 → OneLess m n
+    → (i : ℕ) → i < 14 → limited m (among k y) (bank i) ≡ triedAfter 14 g k (Filter (filterNumber n)) (bank i)
 
 -- ---- the winner
 

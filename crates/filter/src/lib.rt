@@ -1,10 +1,8 @@
 // The filter that a frame passes: the filters of a bank, their numbers, and the search.
 // A word of `Filters` has a bit for each bank, `banks` has R1 and R2 of each bank in turn, w is the frame's identifier word.
-ghost use mathlib.Core.Bool.{true, _&&_};
 ghost use mathlib.Core.Path.{_≡_};
 ghost use Prim.Native.Nat.{ℕ, _+_, _<_, _≤_};
-ghost use lib.Dec.{eqb, ltb};
-ghost use Rattle.model.specs.declared.Fifo.the-variants.{F1};
+ghost use lib.Dec.{eqb};
 ghost use Rattle.model.specs.declared.FilterClass.the-variants.{List32, Mask32, List16, Mask16};
 ghost use Rattle.model.specs.Base as base;
 ghost use Rattle.model.specs.Banks as banks;
@@ -174,10 +172,30 @@ struct FirstMatch {
     compared: u32,
 }
 
-// The first match in the banks of the word `part`. The lowest bank that is left comes next.
-fn first_match(banks: &[u32; 28], w: u32, short: u32, k: FilterClass, part: u32) -> FirstMatch
+fn no_match(compared: u32) -> FirstMatch
+    ensures { λ r. ⌜ r ≡ places.noMatch compared ⌝ }
+{
+    FirstMatch {
+        place: Place(128),
+        compared: compared,
+    }
+}
+
+// Where nothing is left out.
+const ALL: u32 = 0xffffffff;
+
+// The first match in the banks of the word `part`, but for those with more than `most` filters before them. The lowest bank that is
+// left comes next.
+fn first_match(
+    banks: &[u32; 28],
+    w: u32,
+    short: u32,
+    k: FilterClass,
+    part: u32,
+    most: u32,
+) -> FirstMatch
     requires { ⌜ short ≡ shortWord w ⌝ }
-    ensures { λ r. ⌜ places.FirstIn (now (banks .entry)) w k part r ⌝ }
+    ensures { λ r. ⌜ places.FirstIn (now (banks .entry)) w k part most r ⌝ }
 {
     let m = width(k);
     let mut compared: u32 = 0;
@@ -185,10 +203,10 @@ fn first_match(banks: &[u32; 28], w: u32, short: u32, k: FilterClass, part: u32)
     'search: loop {
         let i = u32::trailing_zeros(left);
         if 14 <= i {
-            break FirstMatch {
-                place: Place(128),
-                compared: compared,
-            };
+            break no_match(compared);
+        }
+        if most < compared {
+            break no_match(compared);
         }
         let bank = Bank(i);
         let a = first_word(banks, bank);
@@ -235,7 +253,7 @@ fn leading_of(g: Filters, banks: &[u32; 28], w: u32, short: u32, k: FilterClass)
         };
     }
     let rest = part & g.assignment;
-    let x = first_match(banks, w, short, k, part & !g.assignment);
+    let x = first_match(banks, w, short, k, part & !g.assignment, ALL);
     let f0 = x.place;
     if f0.0 < 128 {
         return Leading {
@@ -245,7 +263,7 @@ fn leading_of(g: Filters, banks: &[u32; 28], w: u32, short: u32, k: FilterClass)
             compared: x.compared,
         };
     }
-    let y = first_match(banks, w, short, k, rest);
+    let y = first_match(banks, w, short, k, rest, ALL);
     let f1 = y.place;
     let compared = x.compared + y.compared;
     Leading {
@@ -352,14 +370,18 @@ fn width_at(g: Filters, b: Bank) -> u32
     1 << (list + half)
 }
 
-// Of the banks of FIFO 1 in the word `part`, those whose first filter number is below n: the others can't win against
-// number n of FIFO 0. A bank has four filters at the most, so one below n / 4 needs no look.
+// Of the banks of FIFO 1 in the word `part`, those whose first filter number is below n: the others can't win against number n of
+// FIFO 0. A bank has four filters at the most, so one below n / 4 needs no look. Where all banks of FIFO 1 are searched, they are
+// given back whole: the numbers are then those of the search, which looks at no bank with n or more filters before it.
 fn can_win(g: Filters, n: u32, part: u32) -> u32
-    requires { ⌜ (n ≤ 56) × ((b : Bank) → b .0 < 14 → base.bit (b .0) part ≡ true → banks.belongs F1 g b ≡ true) ⌝ }
-    ensures { λ r. ⌜ ((b : Bank) → b .0 < 14 → base.bit (b .0) r ≡ (base.bit (b .0) part && ltb (banks.firstNumber 14 g F1 b .0) n)) ⌝ }
+    requires { ⌜ n ≤ 56 ⌝ }
+    ensures { λ r. ⌜ places.CanWin g n part r ⌝ }
 {
     let sure = (n + 3) / 4;
     if part >> sure == 0 {
+        return part;
+    }
+    if (g.assignment & !part == 0) & (n != 0) {
         return part;
     }
     let mut left = g.assignment;
@@ -376,43 +398,50 @@ fn can_win(g: Filters, n: u32, part: u32) -> u32
 
 // A function for each class, so that the compiler makes a loop for each: a class that is looked up in the loop costs more than the
 // comparisons.
-fn list32_match(banks: &[u32; 28], w: u32, short: u32, part: u32) -> FirstMatch
+fn list32_match(banks: &[u32; 28], w: u32, short: u32, part: u32, most: u32) -> FirstMatch
     requires { ⌜ short ≡ shortWord w ⌝ }
-    ensures { λ r. ⌜ places.FirstIn (now (banks .entry)) w List32 part r ⌝ }
+    ensures { λ r. ⌜ places.FirstIn (now (banks .entry)) w List32 part most r ⌝ }
 {
-    first_match(banks, w, short, FilterClass::List32, part)
+    first_match(banks, w, short, FilterClass::List32, part, most)
 }
 
-fn mask32_match(banks: &[u32; 28], w: u32, short: u32, part: u32) -> FirstMatch
+fn mask32_match(banks: &[u32; 28], w: u32, short: u32, part: u32, most: u32) -> FirstMatch
     requires { ⌜ short ≡ shortWord w ⌝ }
-    ensures { λ r. ⌜ places.FirstIn (now (banks .entry)) w Mask32 part r ⌝ }
+    ensures { λ r. ⌜ places.FirstIn (now (banks .entry)) w Mask32 part most r ⌝ }
 {
-    first_match(banks, w, short, FilterClass::Mask32, part)
+    first_match(banks, w, short, FilterClass::Mask32, part, most)
 }
 
-fn list16_match(banks: &[u32; 28], w: u32, short: u32, part: u32) -> FirstMatch
+fn list16_match(banks: &[u32; 28], w: u32, short: u32, part: u32, most: u32) -> FirstMatch
     requires { ⌜ short ≡ shortWord w ⌝ }
-    ensures { λ r. ⌜ places.FirstIn (now (banks .entry)) w List16 part r ⌝ }
+    ensures { λ r. ⌜ places.FirstIn (now (banks .entry)) w List16 part most r ⌝ }
 {
-    first_match(banks, w, short, FilterClass::List16, part)
+    first_match(banks, w, short, FilterClass::List16, part, most)
 }
 
-fn mask16_match(banks: &[u32; 28], w: u32, short: u32, part: u32) -> FirstMatch
+fn mask16_match(banks: &[u32; 28], w: u32, short: u32, part: u32, most: u32) -> FirstMatch
     requires { ⌜ short ≡ shortWord w ⌝ }
-    ensures { λ r. ⌜ places.FirstIn (now (banks .entry)) w Mask16 part r ⌝ }
+    ensures { λ r. ⌜ places.FirstIn (now (banks .entry)) w Mask16 part most r ⌝ }
 {
-    first_match(banks, w, short, FilterClass::Mask16, part)
+    first_match(banks, w, short, FilterClass::Mask16, part, most)
 }
 
-fn match_of_class(banks: &[u32; 28], w: u32, short: u32, k: FilterClass, part: u32) -> FirstMatch
+fn match_of_class(
+    banks: &[u32; 28],
+    w: u32,
+    short: u32,
+    k: FilterClass,
+    part: u32,
+    most: u32,
+) -> FirstMatch
     requires { ⌜ short ≡ shortWord w ⌝ }
-    ensures { λ r. ⌜ places.FirstIn (now (banks .entry)) w k part r ⌝ }
+    ensures { λ r. ⌜ places.FirstIn (now (banks .entry)) w k part most r ⌝ }
 {
     match k {
-        FilterClass::List32 => list32_match(banks, w, short, part),
-        FilterClass::Mask32 => mask32_match(banks, w, short, part),
-        FilterClass::List16 => list16_match(banks, w, short, part),
-        FilterClass::Mask16 => mask16_match(banks, w, short, part),
+        FilterClass::List32 => list32_match(banks, w, short, part, most),
+        FilterClass::Mask32 => mask32_match(banks, w, short, part, most),
+        FilterClass::List16 => list16_match(banks, w, short, part, most),
+        FilterClass::Mask16 => mask16_match(banks, w, short, part, most),
     }
 }
 
@@ -459,7 +488,8 @@ fn after_fifo0(g: Filters, banks: &[u32; 28], w: u32, short: u32, b: BestClass) 
     if part == 0 {
         return alone;
     }
-    let y = match_of_class(banks, w, short, k, part);
+    let most = std::num::wrapping_sub_u32(n0, 1);
+    let y = match_of_class(banks, w, short, k, part, most);
     let n1 = number_at(g, Fifo::F1, y.place);
     let compared = p.compared + y.compared;
     SearchResult {
