@@ -371,8 +371,8 @@ fn width_at(g: Filters, b: Bank) -> u32
 }
 
 // Of the banks of FIFO 1 in the word `part`, those whose first filter number is below n: the others can't win against number n of
-// FIFO 0. A bank has four filters at the most, so one below n / 4 needs no look. Where all banks of FIFO 1 are searched, they are
-// given back whole: the numbers are then those of the search, which looks at no bank with n or more filters before it.
+// FIFO 0. No bank has more than four filters, so bank i with 4 * i < n needs no look. Where all banks of FIFO 1 are searched they are
+// given back whole: the first number of each is then how many filters come before it, and the search stops by its own count.
 fn can_win(g: Filters, n: u32, part: u32) -> u32
     requires { ⌜ n ≤ 56 ⌝ }
     ensures { λ r. ⌜ places.CanWin g n part r ⌝ }
