@@ -7,8 +7,7 @@ use Prim.Native.Nat.{ℕ, _+_, _-_, _*_, _%_, _^_, _≤_, _<_}
 use native.Mathlib.Omega.{arith}
 use borrow.Author.Tests.{ltb-false, le-ltb}
 use lib.Dec.{ltb}
-use Rattle.model.specs.Base.{pick}
-use Rattle.model.specs.Banks.{bank, filterNumber, firstWord, secondWord, matches, firstNumber, numberOf}
+use Rattle.model.specs.Banks.{bank, filterNumber, firstNumber}
 use Rattle.model.specs.Search.{first, searched, tried, hitAt, hitIn, firstHit, better, acceptance}
 use Rattle.model.specs.declared.Filters.{Filters}
 use Rattle.model.specs.declared.Bank.{Bank}
@@ -17,7 +16,9 @@ use Rattle.model.specs.declared.FilterNumber.{FilterNumber}
 use Rattle.model.specs.declared.FilterClass.{FilterClass}
 use Rattle.model.specs.declared.Hit.{Hit}
 use Rattle.model.specs.declared.Hit.the-variants.{Filter, Nothing}
-use Rattle.model.proofs.FirstHit.{lower as below, first-at, FirstOfRow, nowhere, at, first-of-row, nothing-no-filter}
+use Rattle.model.proofs.FirstHit.{lower as below, first-at, FirstOfRow, nowhere, at, first-of-row}
+use Rattle.model.proofs.FilterNumbers.{first-number}
+use Rattle.model.proofs.LowestNumber.{number-in-bank}
 use Rattle.filter.specs.Compared.{triedAfter, compared}
 use Rattle.filter.specs.Places.{hitOf, numberAt, among, limited, firstOf, FirstIn, Best, OneLess, CanWin, winnerOf, lower, resultOf}
 use Rattle.filter.specs.declared.FirstMatch.{FirstMatch}
@@ -25,8 +26,8 @@ use Rattle.filter.specs.declared.BestClass.{BestClass}
 use Rattle.filter.proofs.BankWords.{no-bit}
 use Rattle.filter.proofs.Candidates.{of-banks-same}
 use Rattle.filter.proofs.Classes.{hit-found, first-of-same, nothing-found, nothing-compared}
-use Rattle.filter.proofs.Numbered.{numbers-up, first-number-of-bank}
-use Rattle.filter.proofs.Passed.{nothing-below, limited-none}
+use Rattle.filter.proofs.Numbered.{numbers-below-up}
+use Rattle.filter.proofs.Passed.{nothing-below, none-either-way, limited-none}
 use Rattle.filter.proofs.Winners.{number-found, lower-wins}
 
 -- ---- what is left out can't win
@@ -59,27 +60,18 @@ module _ (g : Filters) (v : List ℕ) (w : ℕ) (k : FilterClass) (x : FilterNum
 
   -- a match has no lower number than the first of its bank
   number-from : (i : ℕ) (y : FilterNumber) → whole i ≡ Filter y → firstNumber 14 g F1 (bank i) .0 ≤ y .0
-  unfolding hitAt
-  number-from i y e = row (first-of-row (hitAt 14 g v w k F1 (bank i)) (tried g k F1 (bank i)))
-    where
-      one : (j : ℕ) (b : Bool) → pick b (Filter (numberOf 14 g F1 (bank i) j)) Nothing ≡ Filter y → firstNumber 14 g F1 (bank i) .0 ≤ y .0
-      one j true d = let same : numberOf 14 g F1 (bank i) j ≡ y = cc in rw (← same) (omega arith)
-      one j false d = nothing-no-filter refl d
-
-      row : FirstOfRow (hitAt 14 g v w k F1 (bank i)) (tried g k F1 (bank i)) → firstNumber 14 g F1 (bank i) .0 ≤ y .0
-      row (nowhere s q) = nothing-no-filter s e
-      row (at j z l d s q) =
-          let same : z ≡ y = cc in one j (matches k (firstWord v (bank i)) (secondWord v (bank i)) j w) (d ∙ ap Filter same)
+  unfolding hitIn
+  number-from i y e = number-in-bank 14 g v w k F1 (bank i) y e .0
 
   -- behind a bank that is left out all are
   none-after : (i : ℕ) → low i ≡ false → ((j : ℕ) → j < i → whole j ≡ Nothing) → (j : ℕ) → j < 14 → part j ≡ Nothing
   none-after i e none j h = elim (below j i) [
     | inl l ↦ still-nothing j (none j l)
     | inr l ↦ let start = ltb-false (firstNumber 14 g F1 (bank i) .0) (x .0) e in
-        let up = numbers-up g F1 i j l in
+        let up = numbers-below-up g F1 i j l in
         left-out j
         (le-ltb (firstNumber 14 g F1 (bank j) .0) (x .0)
-        (omega (arith, first-number-of-bank 14 g F1 (bank i) (omega arith), first-number-of-bank 14 g F1 (bank j) h)))
+        (omega (arith, first-number 14 g F1 (bank i) (omega arith), first-number 14 g F1 (bank j) (omega arith))))
   ]
 
   -- so the better of FIFO 0's match and what is found is the better one of both matches
@@ -126,11 +118,7 @@ module _ (g : Filters) (v : List ℕ) (w : ℕ) (b : BestClass) (s : Best g v w 
   none-left z i l =
       let f = hit-found g F0 (b .leading .f0) found in
       let out : searched g (b .class) F1 (bank i) ≡ false = sym (s .rest found (bank i) l) ∙ rw z (no-bit i) in
-      rw (f .1, out) (either-way (ltb (firstNumber 14 g F1 (bank i) .0) (f .0 .0)))
-    where
-      either-way : (t : Bool) → pick {A = ℕ} t 0 0 ≡ 0
-      either-way true = refl
-      either-way false = refl
+      rw (f .1, out) (none-either-way (ltb (firstNumber 14 g F1 (bank i) .0) (f .0 .0)))
 
   -- FIFO 0's match and what is found in FIFO 1 decide
   decided : better (hitOf g F0 (b .leading .f0)) (firstOf g v w (b .class) F1 after) ≡ acceptance 14 g v w

@@ -4,7 +4,7 @@ use mathlib.Core.Bool.{Bool, true, false, not, _&&_}
 use Prim.Native.Nat.{ℕ, _-_, _/_, _%_, _^_, _≤_, _<_, min}
 use native.Mathlib.Omega.{arith}
 use lib.Dec.{eqb, ltb}
-use borrow.Author.Tests.{ltb-false, eqb-true}
+use borrow.Author.Tests.{ltb-false}
 use lib.Bits.{bitAnd}
 use lib.Pow.{shr-le}
 use Rattle.model.specs.Base.{pick, bit}
@@ -16,7 +16,6 @@ use Rattle.model.specs.declared.Fifo.{Fifo}
 use Rattle.model.specs.declared.FilterClass.{FilterClass}
 use Rattle.model.specs.declared.FilterClass.the-variants.{List32, Mask32, List16, Mask16}
 use Rattle.model.proofs.Digits.{for-digit, and-digit, not-digit}
-use Rattle.model.proofs.LowestNumber.{rank-injective}
 use Rattle.model.proofs.Numbering.{own-digit}
 
 -- ---- a bit of `a & b` and of the 32-bit `!a`
@@ -90,17 +89,6 @@ unfolding searched
 searched-bit g k f x b h ha e =
     rw (and-bit (b .0) (bitAnd (g .activation) x) (own f g), and-bit (b .0) (g .activation) x, own-digit f g b h ha, e)
     (of-three (isActive g b) (belongs f g b) (eqb (rank (classOf g b)) (rank k)))
-
--- a bank that is searched is one of its FIFO and of the class
-pub searched-is : (g : Filters) (k : FilterClass) (f : Fifo) (b : Bank) → searched g k f b ≡ true → (belongs f g b ≡ true) × (classOf g b ≡ k)
-unfolding searched
-searched-is g k f b = go (isActive g b) (belongs f g b) (eqb (rank (classOf g b)) (rank k)) refl
-  where
-    go : (a o x : Bool) → eqb (rank (classOf g b)) (rank k) ≡ x → (a && (o && x)) ≡ true → (o ≡ true) × (classOf g b ≡ k)
-    go true true true e h = (refl, rank-injective (classOf g b) k (eqb-true (rank (classOf g b)) (rank k) e))
-    go true true false e h = let z : _≡_ {A = ℕ} 0 1 = cc in absurd (omega arith)
-    go true false x e h = let z : _≡_ {A = ℕ} 0 1 = cc in absurd (omega arith)
-    go false o x e h = let z : _≡_ {A = ℕ} 0 1 = cc in absurd (omega arith)
 
 -- ---- how many of the 14 banks lie below one
 

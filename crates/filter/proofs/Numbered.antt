@@ -20,11 +20,11 @@ use Rattle.model.specs.declared.Fifo.the-variants.{F1}
 use Rattle.model.specs.declared.Hit.the-variants.{Filter}
 use Rattle.model.proofs.Digits.{for-digit}
 use Rattle.model.proofs.FirstHit.{lower}
-use Rattle.model.proofs.FilterNumbers.{numbers-below-le}
-use Rattle.model.proofs.LowestNumber.{tried-share}
+use Rattle.model.proofs.FilterNumbers.{first-number, numbers-below-le}
+use Rattle.model.proofs.LowestNumber.{searched-is, tried-share}
 use Rattle.filter.specs.Compared.{triedAfter}
 use Rattle.filter.specs.Places.{among, limited, Rest, OneLess}
-use Rattle.filter.proofs.BankWords.{and-bit, not-bit, no-bit, searched-is}
+use Rattle.filter.proofs.BankWords.{and-bit, not-bit, no-bit}
 use Rattle.filter.proofs.Candidates.{sum-same, sum-skip, sum-le}
 use Rattle.filter.proofs.Passed.{limited-none, limited-all}
 use Rattle.filter.proofs.LeftBanks.{without, below-lowest, From, from-first, none-between, lowest-from, lowest-in, from-next}
@@ -40,12 +40,8 @@ width-from-digits s m hs hm =
 
 -- ---- numbers go up with the banks
 
-pub numbers-up : (g : Filters) (f : Fifo) (i m : ℕ) → i ≤ m → numbersBelow f g i ≤ numbersBelow f g m
-numbers-up g f = sum-le (λ (j : ℕ). share f g (bank j))
-
-pub first-number-of-bank : (n : ℕ) (g : Filters) (f : Fifo) (b : Bank) → b .0 < n → firstNumber n g f b .0 ≡ numbersBelow f g (b .0)
-unfolding firstNumber
-first-number-of-bank n g f b h = rw (lt-ltb (b .0) n h)
+pub numbers-below-up : (g : Filters) (f : Fifo) (i m : ℕ) → i ≤ m → numbersBelow f g i ≤ numbersBelow f g m
+numbers-below-up g f = sum-le (λ (j : ℕ). share f g (bank j))
 
 -- ---- two tests at once
 
@@ -122,12 +118,12 @@ module _ (g : Filters) (n y m : ℕ) (s : Low g n y m) where
       → ((b : Bank) → b .0 < 14 → bit (b .0) x ≡ true → belongs F1 g b ≡ true)
       → (b : Bank) → b .0 < 14 → bit (b .0) (bitAnd x ((2 ^ 32 - 1) - y)) ≡ (bit (b .0) x && ltb (firstNumber 14 g F1 b .0) n)
   all-low end x own b h =
-      rw (and-bit (b .0) x ((2 ^ 32 - 1) - y), not-bit (b .0) y (omega arith) (s .fits), first-number-of-bank 14 g F1 b h)
+      rw (and-bit (b .0) x ((2 ^ 32 - 1) - y), not-bit (b .0) y (omega arith) (s .fits), first-number 14 g F1 b (omega arith))
       (go (bit (b .0) x) refl)
     where
       left-here : (14 ≤ trailingZeros 32 y) ⊎ (n ≤ m) → s .next ≤ b .0 → bit (b .0) y ≡ true → n ≤ numbersBelow F1 g (b .0)
       left-here (inl l) p e = let none = below-lowest y (b .0) (omega arith) in let z : _≡_ {A = ℕ} 0 1 = cc in absurd (omega arith)
-      left-here (inr l) p e = omega (arith, numbers-up g F1 (s .next) (b .0) p, s .number)
+      left-here (inr l) p e = omega (arith, numbers-below-up g F1 (s .next) (b .0) p, s .number)
 
       go : (t : Bool) → bit (b .0) x ≡ t → (t && not (bit (b .0) y)) ≡ (t && ltb (numbersBelow F1 g (b .0)) n)
       go false e = refl
@@ -153,7 +149,7 @@ surely-low g n x e b h = go (bit (b .0) x) refl
     go : (t : Bool) → bit (b .0) x ≡ t → t ≡ (t && ltb (firstNumber 14 g F1 b .0) n)
     go false d = refl
     go true d = elim (lower (b .0) ((n + 3) / 4)) [
-      | inl l ↦ let low : numbersBelow F1 g (b .0) < n = omega (arith, numbers-below-le F1 g (b .0)) in rw (first-number-of-bank 14 g F1 b h, lt-ltb (numbersBelow F1 g (b .0)) n low)
+      | inl l ↦ let low : numbersBelow F1 g (b .0) < n = omega (arith, numbers-below-le F1 g (b .0)) in rw (first-number 14 g F1 b (omega arith), lt-ltb (numbersBelow F1 g (b .0)) n low)
       | inr l ↦ let none = no-high-bit x ((n + 3) / 4) (b .0) e l in let z : _≡_ {A = ℕ} 0 1 = cc in absurd (omega arith)
     ]
 
@@ -162,7 +158,7 @@ surely-low g n x e b h = go (bit (b .0) x) refl
 -- they are in FIFO 1
 pub rest-in-fifo1 : (g : Filters) (k : FilterClass) (x : ℕ) → Rest g k x
     → (b : Bank) → b .0 < 14 → bit (b .0) x ≡ true → belongs F1 g b ≡ true
-rest-in-fifo1 g k x rest b l e = searched-is g k F1 b (sym (rest b l) ∙ e) .0
+rest-in-fifo1 g k x rest b l e = searched-is g k F1 b (sym (rest b l) ∙ e) .1
 
 -- the code's test that no other bank is, and that n is not 0
 pub all-in-word : (g : Filters) (n : ℕ) (k : FilterClass) (x : ℕ) → Rest g k x → x < 2 ^ 32
@@ -237,7 +233,7 @@ module _ (g : Filters) (n x : ℕ) (k : FilterClass) (m : ℕ) (rest : Rest g k 
         go true true d e =
             let low = ltb-true (firstNumber 14 g F1 (bank i) .0) n d in
             let sums = sum-mono (λ (j : ℕ). among k y (bank j)) (λ (j : ℕ). share F1 g (bank j)) i (λ j p. no-more j (omega arith)) in
-            limited-all m (among k y) (bank i) (omega (arith, first-number-of-bank 14 g F1 (bank i) l)) ∙ looked-at i l
+            limited-all m (among k y) (bank i) (omega (arith, first-number 14 g F1 (bank i) (omega arith))) ∙ looked-at i l
 
   -- where all banks of FIFO 1 are searched, the filters before a bank are its first number
   module _ (all : (b : Bank) → b .0 < 14 → belongs F1 g b ≡ bit (b .0) x) (z : (n ≡ 0 → ⊥)) where
@@ -245,11 +241,11 @@ module _ (g : Filters) (n x : ℕ) (k : FilterClass) (m : ℕ) (rest : Rest g k 
     whole-bank i l = go (bit i x) refl
       where
         go : (t : Bool) → bit i x ≡ t → pick t (width k) 0 ≡ share F1 g (bank i)
-        go true e = let is = searched-is g k F1 (bank i) (sym (rest (bank i) l) ∙ e) in rw (all (bank i) l ∙ e, is .1)
+        go true e = let is = searched-is g k F1 (bank i) (sym (rest (bank i) l) ∙ e) in rw (all (bank i) l ∙ e, is .2)
         go false e = rw (all (bank i) l ∙ e)
 
     pub begin-whole : (i : ℕ) → i < 14 → limited m (among k x) (bank i) ≡ triedAfter 14 g k (Filter (filterNumber n)) (bank i)
     unfolding limited triedAfter tried
     begin-whole i l =
         let sums : sum (λ (j : ℕ). among k x (bank j)) i ≡ numbersBelow F1 g i = sum-same _ _ i (λ j p. whole-bank j (omega arith)) in
-        rw (sums, one-less (numbersBelow F1 g i) m n fits less z, first-number-of-bank 14 g F1 (bank i) l, rest (bank i) l)
+        rw (sums, one-less (numbersBelow F1 g i) m n fits less z, first-number 14 g F1 (bank i) (omega arith), rest (bank i) l)

@@ -73,14 +73,14 @@ pub record PassedTo (v : List ℕ) (w : ℕ) (k : FilterClass) (x m i c : ℕ) :
 outside : (k : FilterClass) (x i : ℕ) → bit i x ≡ false → among k x (bank i) ≡ 0
 outside k x i e = rw e
 
+pub none-either-way : (o : Bool) → pick {A = ℕ} o 0 0 ≡ 0
+none-either-way true = refl
+none-either-way false = refl
+
 -- with the limit no more than without
 pub limited-none : (m : ℕ) (t : Bank → ℕ) (b : Bank) → t b ≡ 0 → limited m t b ≡ 0
 unfolding limited
-limited-none m t b e = rw e (either-way (leb (sum (λ (i : ℕ). t (bank i)) (b .0)) m))
-  where
-    either-way : (o : Bool) → pick {A = ℕ} o 0 0 ≡ 0
-    either-way true = refl
-    either-way false = refl
+limited-none m t b e = rw e (none-either-way (leb (sum (λ (i : ℕ). t (bank i)) (b .0)) m))
 
 -- a bank with few enough filters before it is looked at
 pub limited-all : (m : ℕ) (t : Bank → ℕ) (b : Bank) → sum (λ (i : ℕ). t (bank i)) (b .0) ≤ m → limited m t b ≡ t b

@@ -6,11 +6,11 @@ use mathlib.Core.Logic.{inl, inr}
 use Prim.Native.Nat.{ℕ, zero, suc, _+_, _≤_, _<_}
 use native.Mathlib.Nat.{le-refl, le-antisymm}
 use native.Mathlib.Omega.{arith}
-use borrow.Author.Tests.{lt-ltb, le-ltb, ltb-false, eqb-true, eq-eqb, ne-eqb}
+use borrow.Author.Tests.{lt-ltb, le-ltb, ltb-false, eq-eqb, ne-eqb}
 use lib.Dec.{eqb, ltb}
 use lib.ListN.{length, length-append}
 use Rattle.model.specs.Base.{pick, bit, sum}
-use Rattle.model.specs.Banks.{bank, filterNumber, isActive, classOf, rank, width, belongs, share, firstNumber, numberOf}
+use Rattle.model.specs.Banks.{bank, filterNumber, isActive, classOf, rank, width, belongs, firstNumber, numberOf}
 use Rattle.model.specs.Search.{searched, tried, firstHit, better}
 use Rattle.model.specs.Filtering.{NumberNoLater, Accepted}
 use Rattle.model.specs.declared.Filters.{Filters}
@@ -24,14 +24,15 @@ use Rattle.model.specs.declared.Hit.{Hit}
 use Rattle.model.specs.declared.Hit.the-variants.{Filter, Nothing}
 use Rattle.model.proofs.Acceptances.{rejected-iff-none-takes}
 use Rattle.model.proofs.FirstHit.{lower}
-use Rattle.model.proofs.LowestNumber.{rank-injective, tried-share, sum-up, lowest, first-hit-active}
+use Rattle.model.proofs.LowestNumber.{rank-injective, is-searched, searched-is, tried-searched, numbers-up, lowest, first-hit-active}
+use Rattle.model.proofs.FilterNumbers.{first-number}
 use Rattle.filter.specs.Compared.{candidate, ofBanks, upToFirst, takesFrame, upToMatch, canWin, triedAfter, comparedIn, isInto, upToClass, comparedFilters, compared, activeFilters, betterFilters, Comparisons}
 use Rattle.filter.specs.Places.{winnerOf, resultOf}
 use Rattle.filter.proofs.BankWords.{no-bit}
-use Rattle.filter.proofs.Candidates.{sum-same, of-banks-same, of-banks-skip, NoneOf, taken-at, cut-prefix}
+use Rattle.filter.proofs.Candidates.{sum-same, sum-skip, of-banks-same, of-banks-skip, NoneOf, taken-at, cut-prefix}
 use Rattle.filter.proofs.Classes.{into-any}
 use Rattle.filter.proofs.Comparing.{length-compared, compared-in-both, all-compared}
-use Rattle.filter.proofs.Numbered.{numbers-up, first-number-of-bank}
+use Rattle.filter.proofs.Numbered.{numbers-below-up}
 
 -- ---- at most those of each FIFO up to its first match
 
@@ -70,9 +71,9 @@ module _ (n : ℕ) (g : Filters) (v : List ℕ) (w : ℕ) (k : FilterClass) wher
   can-win-until : (x : FilterNumber) → Until (λ (i : ℕ). canWin (Filter x) (firstNumber n g F1 (bank i))) n
   can-win-until x = until _ n (λ i j l m e.
       let start = ltb-false (firstNumber n g F1 (bank i) .0) (x .0) e in
-      let up = numbers-up g F1 i j l in
+      let up = numbers-below-up g F1 i j l in
       le-ltb (firstNumber n g F1 (bank j) .0) (x .0)
-      (omega (arith, first-number-of-bank n g F1 (bank i) (omega arith), first-number-of-bank n g F1 (bank j) m)))
+      (omega (arith, first-number n g F1 (bank i) (omega arith), first-number n g F1 (bank j) (omega arith))))
 
   no-more : (h : Hit) → length (upToFirst (takesFrame v w k) (ofBanks (triedAfter n g k h) n)) ≤ length (upToMatch n g v w k F1)
   unfolding triedAfter upToMatch
@@ -97,34 +98,11 @@ fewer-tried n g k h b = go (canWin h (firstNumber n g F1 b))
     go true = le-refl _
     go false = omega arith
 
--- those of active banks of the class in the FIFO
-tried-is : (g : Filters) (k : FilterClass) (f : Fifo) (b : Bank) (j : ℕ) → j < tried g k f b
-    → (isActive g b ≡ true) × (belongs f g b ≡ true) × (classOf g b ≡ k)
-unfolding tried searched
-tried-is g k f b j = go (isActive g b) (belongs f g b) (eqb (rank (classOf g b)) (rank k)) refl
-  where
-    go : (a o t : Bool) → eqb (rank (classOf g b)) (rank k) ≡ t → j < pick (a && (o && t)) (width k) 0 → (a ≡ true) × (o ≡ true) × (classOf g b ≡ k)
-    go true true true e h = (refl, refl, rank-injective (classOf g b) k (eqb-true (rank (classOf g b)) (rank k) e))
-    go true true false e h = absurd (omega arith)
-    go true false t e h = absurd (omega arith)
-    go false o t e h = absurd (omega arith)
-
+-- those of active banks of the class in the FIFO, all of them
 all-tried : (g : Filters) (k : FilterClass) (f : Fifo) (b : Bank) → isActive g b ≡ true → belongs f g b ≡ true → classOf g b ≡ k
     → tried g k f b ≡ width k
-unfolding tried searched
-all-tried g k f b on own class = rw (on, own, class, eq-eqb (rank k) (rank k) refl)
-
--- their numbers end before those of a higher bank begin
-numbers-ascend : (n : ℕ) (g : Filters) (k : FilterClass) (f : Fifo) (c i : ℕ) → c < i → i < n
-    → firstNumber n g f (bank c) .0 + tried g k f (bank c) ≤ firstNumber n g f (bank i) .0
-numbers-ascend n g k f c i l h =
-    omega (
-      arith,
-      first-number-of-bank n g f (bank c) (omega arith),
-      first-number-of-bank n g f (bank i) h,
-      sum-up (λ (j : ℕ). share f g (bank j)) c i l,
-      tried-share g k f (bank c),
-    )
+unfolding tried
+all-tried g k f b on own class = rw (is-searched g k f b on own class)
 
 -- ---- counts over the banks
 
@@ -135,8 +113,7 @@ sum-plus s t (suc n) = omega (arith, sum-plus s t n)
 
 sum-none : (s : ℕ → ℕ) (n : ℕ) → ((i : ℕ) → i < n → s i ≡ 0) → sum s n ≡ 0
 unfolding sum
-sum-none s zero h = refl
-sum-none s (suc n) h = omega (arith, sum-none s n (λ i l. h i (omega arith)), h n (omega arith))
+sum-none s n h = sum-skip s 0 n (omega arith) (λ i p q. h i q)
 
 -- the filters of an active bank of class c, if c is one of the r best
 abbrev ofBest : ℕ → Bool → FilterClass → ℕ
@@ -316,7 +293,7 @@ module _ (n : ℕ) (g : Filters) (v : List ℕ) (w : ℕ) where
           go : (t : Bool) → takesFrame v w (a .class) (candidate c m) ≡ t → t ≡ false
           go false d = refl
           go true d =
-              let is = tried-is g (a .class) e c m o in
+              let is = searched-is g (a .class) e c (tried-searched g (a .class) e c m o) in
               elim (a .noLater (a .class) e c m (record { within = l; active = is .0; assigned = is .1; class = is .2; takes = d })) [
                 | inl r ↦ absurd (omega arith)
                 | inr (r, inl s) ↦ absurd (omega arith)
@@ -325,7 +302,7 @@ module _ (n : ℕ) (g : Filters) (v : List ℕ) (w : ℕ) where
 
       none-below : NoneOf (takesFrame v w (a .class)) (tried g (a .class) e) i
       none-below c m l o =
-          let up = numbers-ascend n g (a .class) e c i l within in
+          let up = numbers-up n g v w (a .class) e (bank c) (bank i) l within in
           lower-false (bank c) m (omega arith) o (omega (arith, at-most))
 
       none-before : (m : ℕ) → m < j → takesFrame v w (a .class) (candidate (bank i) m) ≡ false

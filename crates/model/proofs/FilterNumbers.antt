@@ -34,7 +34,7 @@ banks-before n i h = elim (lower i n) [
 ]
 
 module _ (n : ℕ) (g : Filters) (f : Fifo) where
-  first-number : (b : Bank) → b .0 ≤ n → firstNumber n g f b .0 ≡ numbersBelow f g (b .0)
+  pub first-number : (b : Bank) → b .0 ≤ n → firstNumber n g f b .0 ≡ numbersBelow f g (b .0)
   unfolding firstNumber
   first-number b h = ap (numbersBelow f g) (banks-before n (b .0) h)
 

@@ -45,18 +45,18 @@ both-true true false e = let z : _≡_ {A = ℕ} 0 1 = cc in absurd (omega arith
 both-true false b e = let z : _≡_ {A = ℕ} 0 1 = cc in absurd (omega arith)
 
 module _ (g : Filters) (k : FilterClass) (f : Fifo) (b : Bank) where
-  is-searched : isActive g b ≡ true → belongs f g b ≡ true → classOf g b ≡ k → searched g k f b ≡ true
+  pub is-searched : isActive g b ≡ true → belongs f g b ≡ true → classOf g b ≡ k → searched g k f b ≡ true
   unfolding searched
   is-searched a o c = rw (a, o, c, eq-eqb (rank k) (rank k) refl)
 
-  searched-is : searched g k f b ≡ true → (isActive g b ≡ true) × (belongs f g b ≡ true) × (classOf g b ≡ k)
+  pub searched-is : searched g k f b ≡ true → (isActive g b ≡ true) × (belongs f g b ≡ true) × (classOf g b ≡ k)
   unfolding searched
   searched-is e =
       let s = both-true (isActive g b) (belongs f g b && eqb (rank (classOf g b)) (rank k)) e in
       let t = both-true (belongs f g b) (eqb (rank (classOf g b)) (rank k)) (s .1) in
       (s .0, t .0, rank-injective (classOf g b) k (eqb-true (rank (classOf g b)) (rank k) (t .1)))
 
-  tried-searched : (j : ℕ) → j < tried g k f b → searched g k f b ≡ true
+  pub tried-searched : (j : ℕ) → j < tried g k f b → searched g k f b ≡ true
   unfolding tried
   tried-searched j = go (searched g k f b) refl
     where
@@ -81,7 +81,7 @@ unfolding sum
 sum-up s i j h = le-ind (λ (m : ℕ). sum s i + s i ≤ sum s m) (le-refl _) (λ m l e. omega arith) j h
 
 module _ (n : ℕ) (g : Filters) (v : List ℕ) (w : ℕ) (k : FilterClass) (f : Fifo) where
-  numbers-up : (a b : Bank) → a .0 < b .0 → b .0 < n → firstNumber n g f a .0 + tried g k f a ≤ firstNumber n g f b .0
+  pub numbers-up : (a b : Bank) → a .0 < b .0 → b .0 < n → firstNumber n g f a .0 + tried g k f a ≤ firstNumber n g f b .0
   unfolding firstNumber
   numbers-up a b h l =
       rw (lt-ltb (a .0) n (omega arith), lt-ltb (b .0) n l)
@@ -105,7 +105,7 @@ module _ (n : ℕ) (g : Filters) (v : List ℕ) (w : ℕ) (k : FilterClass) (f :
       go (nowhere s q) = nothing-no-filter s e
       go (at j y l d s q) = (j, l, cc)
 
-  number-in-bank : (b : Bank) (x : FilterNumber) → hitIn n g v w k f b ≡ Filter x
+  pub number-in-bank : (b : Bank) (x : FilterNumber) → hitIn n g v w k f b ≡ Filter x
       → (firstNumber n g f b .0 ≤ x .0) × (x .0 < firstNumber n g f b .0 + tried g k f b)
   number-in-bank b x e =
       let h = bank-hit b x e in let is = hit-is b (h .0) x (h .2) in rw (is .1) (omega arith, omega arith)
