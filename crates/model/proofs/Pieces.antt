@@ -12,7 +12,7 @@ use borrow.Author.Tests.{ltb-true, le-ltb, eqb-true}
 use Rattle.model.specs.Base.{pick}
 use Rattle.model.specs.Step.{step}
 use Rattle.model.specs.Requests.{after}
-use Rattle.model.specs.Script.{byteAt, bodyLength, reading, reply, replayed, recordAt, replyOf, stops, Progress, replay, stepsBy, stepsFrom, stepsOf, repliesTo}
+use Rattle.model.specs.Script.{byteAt, total, bodyLength, reading, reply, replayed, recordAt, replyOf, stops, Progress, replay, stepsBy, stepsFrom, stepsOf, repliesTo}
 use Rattle.model.specs.Scripts.{answerable, headerShort, tagUnknown, lengthWrong, bodyShort, answeredSteps, lastAnswer, placeAfter, goesOn, followed, leftBy, Resumes, afterPiece, inPieces, Fit, InPieces}
 use Rattle.model.specs.declared.Controller.{Controller}
 use Rattle.model.specs.declared.Reading.{Reading}
@@ -261,12 +261,12 @@ module _ (z : Controller) (a b : List ℕ) (first space : ℕ) where
 body-small : (t : ℕ) → bodyLength t ≤ 13
 unfolding bodyLength
 body-small t =
-    pick-cases (λ (n : ℕ). n ≤ 13) (eqb t 2) _ _ (λ _. omega arith)
-    (λ _. pick-cases (λ (n : ℕ). n ≤ 13) (eqb t 3) _ _ (λ _. omega arith)
-    (λ _. pick-cases (λ (n : ℕ). n ≤ 13) (eqb t 5) _ _ (λ _. omega arith)
-    (λ _. pick-cases (λ (n : ℕ). n ≤ 13) (eqb t 8) _ _ (λ _. omega arith)
-    (λ _. pick-cases (λ (n : ℕ). n ≤ 13) (eqb t 9) _ _ (λ _. omega arith)
-    (λ _. pick-cases (λ (n : ℕ). n ≤ 13) (eqb t 10) _ _ (λ _. omega arith) (λ _. omega arith))))))
+    pick-cases (λ (l : List ℕ). total l ≤ 13) (eqb t 2) _ _ (λ _. omega arith)
+    (λ _. pick-cases (λ (l : List ℕ). total l ≤ 13) (eqb t 3) _ _ (λ _. omega arith)
+    (λ _. pick-cases (λ (l : List ℕ). total l ≤ 13) (eqb t 5) _ _ (λ _. omega arith)
+    (λ _. pick-cases (λ (l : List ℕ). total l ≤ 13) (eqb t 8) _ _ (λ _. omega arith)
+    (λ _. pick-cases (λ (l : List ℕ). total l ≤ 13) (eqb t 9) _ _ (λ _. omega arith)
+    (λ _. pick-cases (λ (l : List ℕ). total l ≤ 13) (eqb t 10) _ _ (λ _. omega arith) (λ _. omega arith))))))
 
 -- a record that is cut short
 cut-short : (z : Controller) (s : List ℕ) (p space : ℕ) → eqb (recordAt z s p space .code) 6 ≡ true → length s - p ≤ 15

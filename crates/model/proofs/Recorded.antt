@@ -11,9 +11,9 @@ use lib.ListN.{length, take, drop, length-drop, take-append-drop, drop-of-length
 use lib.Seq.{drop-append-seam, getD-drop, length-take-le, drop-cons, drop-length}
 use borrow.Author.Tests.{eq-eqb, le-ltb, lt-leb, ltb-false, leb-true, eqb-true, not-false}
 use Rattle.model.specs.Base.{pick}
-use Rattle.model.specs.Script.{byteAt, number16, isTag, bodyLength, decoded, part, reading, stepsBy, stepsFrom, stepsOf, reply}
+use Rattle.model.specs.Script.{byteAt, number16, isTag, bodyLength, stepOf, stepTag, stepValues, decoded, part, reading, stepsBy, stepsFrom, stepsOf, reply}
 use Rattle.model.specs.Scripts.{isEnd, headerShort, tagUnknown, lengthWrong, bodyShort, behind, stepAt}
-use Rattle.model.specs.Records.{bytesOf, numberOf, Bytes, Field, stepTag, stepFields, FitWidths, fieldBytes, fieldValues, stepBody, recordOf, stepNumbers, readingNumbers, NumbersApart, Tags, RecordSays, IsRecord, RecordStands, scriptOf, AllFit, ScriptSays, ReplySays}
+use Rattle.model.specs.Records.{bytesOf, numberOf, Bytes, Field, stepFields, FitWidths, fieldBytes, stepBody, recordOf, stepNumbers, readingNumbers, NumbersApart, Tags, RecordSays, IsRecord, RecordStands, scriptOf, AllFit, ScriptSays, sampleSteps, Samples, ReplySays}
 use Rattle.model.specs.declared.Reading.{Reading}
 use Rattle.model.specs.declared.Reading.the-variants.{End, Malformed, Found}
 use Rattle.model.specs.declared.Step as steps
@@ -69,27 +69,13 @@ field-bytes (f ∷ l) = both-bytes (bytesOf (f .width) (f .value)) (fieldBytes l
 
 -- ---- the numbers of a step and of a reading tell it
 
-abbrev stepFrom : ℕ → List ℕ → steps.Step
-stepFrom t l =
-    pick (eqb t 1) Reset
-    (pick (eqb t 2) (Read (byteAt l 0))
-    (pick (eqb t 3) (Write (byteAt l 0) (byteAt l 1))
-    (pick (eqb t 4) Idle
-    (pick (eqb t 5) (BitTimes (byteAt l 0))
-    (pick (eqb t 6) Activity
-    (pick (eqb t 7) Start
-    (pick (eqb t 8) (Outcome (byteAt l 0))
-    (pick (eqb t 9) (Receive (record { identifier = byteAt l 0; length = byteAt l 1; low = byteAt l 2; high = byteAt l 3 }))
-    (ReceiveError (byteAt l 0) (byteAt l 1))))))))))
-
-abbrev stepOf : List ℕ → steps.Step
-stepOf l = stepFrom (byteAt l 0) (drop 1 l)
+abbrev stepNumbered : List ℕ → steps.Step
+stepNumbered l = stepOf (byteAt l 0) (drop 1 l)
 
 abbrev readingOf : List ℕ → Reading
-readingOf l = pick (eqb (byteAt l 0) 0) End (pick (eqb (byteAt l 0) 1) (Malformed (byteAt l 1)) (Found (stepOf (drop 2 l)) (byteAt l 1)))
+readingOf l = pick (eqb (byteAt l 0) 0) End (pick (eqb (byteAt l 0) 1) (Malformed (byteAt l 1)) (Found (stepNumbered (drop 2 l)) (byteAt l 1)))
 
-step-back : (e : steps.Step) → stepOf (stepNumbers e) ≡ e
-unfolding fieldValues
+step-back : (e : steps.Step) → stepOf (stepTag e) (stepValues e) ≡ e
 step-back Reset = refl
 step-back (Read o) = refl
 step-back (Write o w) = refl
@@ -108,7 +94,7 @@ reading-back (Found e q) = ap (λ (f : steps.Step). Found f q) (step-back e)
 
 pub numbers-apart : NumbersApart
 numbers-apart = record {
-  steps = λ e f h. sym (step-back e) ∙ ap stepOf h ∙ step-back f;
+  steps = λ e f h. sym (step-back e) ∙ ap stepNumbered h ∙ step-back f;
   readings = λ x y h. sym (reading-back x) ∙ ap readingOf h ∙ reading-back y;
 }
 
@@ -163,7 +149,7 @@ unfolding decoded
 tag-decoded t b = for-tag (λ (t : ℕ). stepTag (decoded t b) ≡ t) refl refl refl refl refl refl refl refl refl refl t
 
 pub tags : Tags
-tags = record { known = tag-known; lengths = body-length; each = tag-decoded }
+tags = record { known = tag-known; lengths = body-length; each = tag-decoded; says = step-back }
 
 -- ---- a record is read
 
@@ -230,6 +216,13 @@ all-steps (e ∷ l) h = first-step e (scriptOf l) (h .0) ∙ ap (λ (k : List st
 
 pub script-says : (l : List steps.Step) → ScriptSays l
 script-says l = record { read = all-steps l }
+
+pub samples : Samples
+unfolding scriptOf fieldBytes bytesOf
+samples = record { bytes = refl; steps = all-steps sampleSteps fits }
+  where
+    fits : AllFit sampleSteps
+    fits = (tt, ((omega arith, tt), ((omega arith, (omega arith, tt)), (tt, ((omega arith, tt), (tt, (tt, ((omega arith, tt), ((omega arith, (omega arith, (omega arith, (omega arith, tt)))), ((omega arith, (omega arith, tt)), tt))))))))))
 
 -- ---- what is found stands there as its record
 
@@ -371,7 +364,7 @@ module _ (s : List ℕ) (p : ℕ) (h : Bytes s) where
       back = body-back (byteAt s p) t body body-size (bytes-take (behind s p - (p + 3)) (drop (p + 3) s) (bytes-drop (p + 3) s h))
 
       record-is : recordOf (stepAt s p) ≡ byteAt s p ∷ (bytesOf 2 size ++ body)
-      record-is = rw (tag-decoded (byteAt s p) body t, back .0, body-size)
+      record-is = rw (back .0, body-size, tag-decoded (byteAt s p) body t)
 
       size-bytes : bytesOf 2 size ≡ byteAt s (p + 1) ∷ byteAt s (p + 2) ∷ []
       size-bytes =

@@ -26,4 +26,7 @@ pub mod Reachable
 pub mod Fairness
 pub mod Scripts
 pub mod Anywhere
+pub mod Writer
+pub mod Replies
+pub mod Lesson
 pub mod Examples

@@ -5,7 +5,7 @@ use mathlib.Core.Path.{_≡_}
 use mathlib.Core.List.{List, [], _∷_, _++_}
 use Prim.Native.Nat.{ℕ, zero, suc, _+_, _*_, _/_, _%_, _^_, _<_, _≤_}
 use lib.ListN.{length, take, drop}
-use Rattle.model.specs.Script.{byteAt, part, isTag, bodyLength, decoded, reading, stepsOf, reply}
+use Rattle.model.specs.Script.{byteAt, part, isTag, bodyWidths, bodyLength, stepOf, stepTag, stepValues, decoded, reading, stepsOf, reply}
 use Rattle.model.specs.declared.Reading.{Reading}
 use Rattle.model.specs.declared.Reading.the-variants.{End, Malformed, Found}
 use Rattle.model.specs.declared.Step as steps
@@ -33,40 +33,15 @@ pub record Field : Type 0 where
   pub width : ℕ
   pub value : ℕ
 
-abbrev pub byte : ℕ → Field
-byte n = record { width = 1; value = n }
+-- numbers with their widths
+abbrev pub fields : List ℕ → List ℕ → List Field
+fields [] l = []
+fields (w ∷ k) [] = []
+fields (w ∷ k) (n ∷ l) = record { width = w; value = n } ∷ fields k l
 
-abbrev pub half : ℕ → Field
-half n = record { width = 2; value = n }
-
-abbrev pub word : ℕ → Field
-word n = record { width = 4; value = n }
-
--- the tag of a step
-abbrev pub stepTag : steps.Step → ℕ
-stepTag Reset = 0x01
-stepTag (Read o) = 0x02
-stepTag (Write o w) = 0x03
-stepTag Idle = 0x04
-stepTag (BitTimes n) = 0x05
-stepTag Activity = 0x06
-stepTag Start = 0x07
-stepTag (Outcome r) = 0x08
-stepTag (Receive x) = 0x09
-stepTag (ReceiveError k n) = 0x0A
-
--- the numbers of its body; eight data bytes are the two words of the frame
+-- the numbers of a step's body
 abbrev pub stepFields : steps.Step → List Field
-stepFields Reset = []
-stepFields (Read o) = half o ∷ []
-stepFields (Write o w) = half o ∷ word w ∷ []
-stepFields Idle = []
-stepFields (BitTimes n) = half n ∷ []
-stepFields Activity = []
-stepFields Start = []
-stepFields (Outcome r) = byte r ∷ []
-stepFields (Receive x) = word (x .identifier) ∷ byte (x .length) ∷ word (x .low) ∷ word (x .high) ∷ []
-stepFields (ReceiveError k n) = byte k ∷ byte n ∷ []
+stepFields e = fields (bodyWidths (stepTag e)) (stepValues e)
 
 -- each number fits its width
 abbrev pub FitWidths : List Field → Type 0
@@ -76,10 +51,6 @@ FitWidths (f ∷ l) = (f .value < 256 ^ (f .width)) × FitWidths l
 unfoldable pub fieldBytes : List Field → List ℕ
 fieldBytes [] = []
 fieldBytes (f ∷ l) = bytesOf (f .width) (f .value) ++ fieldBytes l
-
-unfoldable pub fieldValues : List Field → List ℕ
-fieldValues [] = []
-fieldValues (f ∷ l) = f .value ∷ fieldValues l
 
 -- the body of a step's record
 abbrev pub stepBody : steps.Step → List ℕ
@@ -91,7 +62,7 @@ recordOf e = stepTag e ∷ (bytesOf 2 (length (stepBody e)) ++ stepBody e)
 
 -- a step as numbers
 abbrev pub stepNumbers : steps.Step → List ℕ
-stepNumbers e = stepTag e ∷ fieldValues (stepFields e)
+stepNumbers e = stepTag e ∷ stepValues e
 
 -- a reading as numbers: 0 the end; 1 a record that can't be read, and its code; 2 a step, the place behind its record, and the step
 abbrev pub readingNumbers : Reading → List ℕ
@@ -106,11 +77,12 @@ pub record NumbersApart : Type 0 where
 
 -- ---- records
 
--- the tags are those of the steps, and each has the length of its step's body
+-- the tags are those of the steps, and each has the length of its step's body; a tag and its numbers say their step
 pub record Tags : Type 0 where
   pub known : (e : steps.Step) → isTag (stepTag e) ≡ true
   pub lengths : (e : steps.Step) → length (stepBody e) ≡ bodyLength (stepTag e)
   pub each : (t : ℕ) (b : List ℕ) → isTag t ≡ true → stepTag (decoded t b) ≡ t
+  pub says : (e : steps.Step) → stepOf (stepTag e) (stepValues e) ≡ e
 
 -- a record is of bytes; wherever it stands in a script, it says its step, and the next place is behind it
 pub record RecordSays (e : steps.Step) : Type 0 where
@@ -139,6 +111,39 @@ AllFit (e ∷ l) = FitWidths (stepFields e) × AllFit l
 
 pub record ScriptSays (l : List steps.Step) : Type 0 where
   pub read : AllFit l → stepsOf (scriptOf l) ≡ l
+
+-- a record of each tag, byte for byte
+abbrev pub sampleSteps : List steps.Step
+sampleSteps =
+    Reset
+    ∷ Read 0x021C
+    ∷ Write 0x02A4 0x12345678
+    ∷ Idle
+    ∷ BitTimes 0x1234
+    ∷ Activity
+    ∷ Start
+    ∷ Outcome 0x07
+    ∷ Receive (record { identifier = 0x24A00004; length = 0x06; low = 0x44332211; high = 0x00006655 })
+    ∷ ReceiveError 0x06 0x08
+    ∷ []
+
+abbrev pub sampleScript : List ℕ
+sampleScript =
+    0x01 ∷ 0x00 ∷ 0x00
+    ∷ 0x02 ∷ 0x02 ∷ 0x00 ∷ 0x1C ∷ 0x02
+    ∷ 0x03 ∷ 0x06 ∷ 0x00 ∷ 0xA4 ∷ 0x02 ∷ 0x78 ∷ 0x56 ∷ 0x34 ∷ 0x12
+    ∷ 0x04 ∷ 0x00 ∷ 0x00
+    ∷ 0x05 ∷ 0x02 ∷ 0x00 ∷ 0x34 ∷ 0x12
+    ∷ 0x06 ∷ 0x00 ∷ 0x00
+    ∷ 0x07 ∷ 0x00 ∷ 0x00
+    ∷ 0x08 ∷ 0x01 ∷ 0x00 ∷ 0x07
+    ∷ 0x09 ∷ 0x0D ∷ 0x00 ∷ 0x04 ∷ 0x00 ∷ 0xA0 ∷ 0x24 ∷ 0x06 ∷ 0x11 ∷ 0x22 ∷ 0x33 ∷ 0x44 ∷ 0x55 ∷ 0x66 ∷ 0x00 ∷ 0x00
+    ∷ 0x0A ∷ 0x02 ∷ 0x00 ∷ 0x06 ∷ 0x08
+    ∷ []
+
+pub record Samples : Type 0 where
+  pub bytes : scriptOf sampleSteps ≡ sampleScript
+  pub steps : stepsOf sampleScript ≡ sampleSteps
 
 -- ---- replies
 

@@ -27,34 +27,83 @@ number16 b i = byteAt b i + byteAt b (i + 1) * 256
 abbrev pub number32 : List ℕ → ℕ → ℕ
 number32 b i = number16 b i + number16 b (i + 2) * 65536
 
--- ---- records: tag, two length bytes, body
+-- ---- the table of records, which reader and writer share
 
 abbrev pub isTag : ℕ → Bool
 isTag t = leb 1 t && leb t 10
 
+-- how many bytes each number of a tag's body has; eight data bytes are the two words of the frame
+abbrev pub bodyWidths : ℕ → List ℕ
+bodyWidths t =
+    pick (eqb t 2) (2 ∷ [])
+    (pick (eqb t 3) (2 ∷ 4 ∷ [])
+    (pick (eqb t 5) (2 ∷ [])
+    (pick (eqb t 8) (1 ∷ [])
+    (pick (eqb t 9) (4 ∷ 1 ∷ 4 ∷ 4 ∷ [])
+    (pick (eqb t 10) (1 ∷ 1 ∷ []) [])))))
+
+-- the step of a tag and the numbers of its body
+abbrev pub stepOf : ℕ → List ℕ → steps.Step
+stepOf t l =
+    pick (eqb t 1) Reset
+    (pick (eqb t 2) (Read (byteAt l 0))
+    (pick (eqb t 3) (Write (byteAt l 0) (byteAt l 1))
+    (pick (eqb t 4) Idle
+    (pick (eqb t 5) (BitTimes (byteAt l 0))
+    (pick (eqb t 6) Activity
+    (pick (eqb t 7) Start
+    (pick (eqb t 8) (Outcome (byteAt l 0))
+    (pick (eqb t 9) (Receive (record { identifier = byteAt l 0; length = byteAt l 1; low = byteAt l 2; high = byteAt l 3 }))
+    (ReceiveError (byteAt l 0) (byteAt l 1))))))))))
+
+-- the tag of a step
+abbrev pub stepTag : steps.Step → ℕ
+stepTag Reset = 0x01
+stepTag (Read o) = 0x02
+stepTag (Write o w) = 0x03
+stepTag Idle = 0x04
+stepTag (BitTimes n) = 0x05
+stepTag Activity = 0x06
+stepTag Start = 0x07
+stepTag (Outcome r) = 0x08
+stepTag (Receive x) = 0x09
+stepTag (ReceiveError k n) = 0x0A
+
+-- the numbers of its body
+abbrev pub stepValues : steps.Step → List ℕ
+stepValues Reset = []
+stepValues (Read o) = o ∷ []
+stepValues (Write o w) = o ∷ w ∷ []
+stepValues Idle = []
+stepValues (BitTimes n) = n ∷ []
+stepValues Activity = []
+stepValues Start = []
+stepValues (Outcome r) = r ∷ []
+stepValues (Receive x) = x .identifier ∷ x .length ∷ x .low ∷ x .high ∷ []
+stepValues (ReceiveError k n) = k ∷ n ∷ []
+
+-- ---- records: tag, two length bytes, body
+
+abbrev pub total : List ℕ → ℕ
+total [] = 0
+total (w ∷ l) = w + total l
+
 -- the length of the body that a tag has
 unfoldable pub bodyLength : ℕ → ℕ
-bodyLength t =
-    pick (eqb t 2) 2
-    (pick (eqb t 3) 6
-    (pick (eqb t 5) 2
-    (pick (eqb t 8) 1
-    (pick (eqb t 9) 13
-    (pick (eqb t 10) 2 0)))))
+bodyLength t = total (bodyWidths t)
+
+-- the number of so many bytes at place i: one, two or four
+abbrev pub numberAt : ℕ → List ℕ → ℕ → ℕ
+numberAt w b i = pick (eqb w 1) (byteAt b i) (pick (eqb w 2) (number16 b i) (number32 b i))
+
+-- numbers of these widths, one behind the other from place i on
+abbrev pub numbersAt : List ℕ → List ℕ → ℕ → List ℕ
+numbersAt [] b i = []
+numbersAt (w ∷ l) b i = numberAt w b i ∷ numbersAt l b (i + w)
 
 -- the step of a tag and its body
 unfoldable pub decoded : ℕ → List ℕ → steps.Step
-decoded t b =
-    pick (eqb t 1) Reset
-    (pick (eqb t 2) (Read (number16 b 0))
-    (pick (eqb t 3) (Write (number16 b 0) (number32 b 2))
-    (pick (eqb t 4) Idle
-    (pick (eqb t 5) (BitTimes (number16 b 0))
-    (pick (eqb t 6) Activity
-    (pick (eqb t 7) Start
-    (pick (eqb t 8) (Outcome (byteAt b 0))
-    (pick (eqb t 9) (Receive (record { identifier = number32 b 0; low = number32 b 5; high = number32 b 9; length = byteAt b 4 }))
-    (ReceiveError (byteAt b 0) (byteAt b 1))))))))))
+decoded t b = stepOf t (numbersAt (bodyWidths t) b 0)
 
 -- the part of the script from a up to e, where a record's body lies
 abbrev pub part : List ℕ → ℕ → ℕ → List ℕ

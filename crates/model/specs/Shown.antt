@@ -7,7 +7,7 @@ use lib.Dec.{eqb}
 use Rattle.model.specs.Base.{bit, bits}
 use Rattle.model.specs.Queue.{number}
 use Rattle.model.specs.Step.{step}
-use Rattle.model.specs.Records.{stepTag}
+use Rattle.model.specs.Script.{stepTag}
 use Rattle.model.specs.declared.Mailbox.{Mailbox}
 use Rattle.model.specs.declared.Fifo.{Fifo}
 use Rattle.model.specs.declared.Fifo.the-variants.{F0, F1}

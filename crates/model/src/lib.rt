@@ -252,6 +252,39 @@ pub enum Reading {
     Found(Step, usize),
 }
 
+// A frame and a step in numbers of 32 bits, which may be too large for a record: what is written to a script.
+pub struct WideFrame {
+    pub identifier: u32,
+    pub low: u32,
+    pub high: u32,
+    pub length: u32,
+}
+
+pub enum WideStep {
+    Reset,
+    Read(u32),
+    Write(u32, u32),
+    Idle,
+    BitTimes(u32),
+    Activity,
+    Start,
+    Outcome(u32),
+    Receive(WideFrame),
+    ReceiveError(u32, u32),
+}
+
+// What writing a record gives: the code, and how many bytes are written.
+pub struct Written {
+    pub code: u8,
+    pub bytes: usize,
+}
+
+// What stands at a place of some replies: one that can't be read, or what it says and the place behind it.
+pub enum ReplyReading {
+    Broken(u8),
+    Said(Answer, usize),
+}
+
 // What one record gives: the next controller, whether the script was at its end, the answer, the next place.
 pub struct Replayed {
     pub controller: Controller,
