@@ -1,14 +1,14 @@
 -- The rounds of a replay: what holds after as many rounds as records, how one more carries it on, and where the replay stops.
 use mathlib.Core.Bool.{Bool, true, false, not, _&&_, _||_, true≢false}
 use mathlib.Core.Path.{_≡_, refl, sym, ap, _∙_}
-use mathlib.Core.List.{List, [], _++_, append-assoc, append-nil}
+use mathlib.Core.List.{List, [], _++_}
 use Prim.Native.Nat.{ℕ, suc, _+_, _-_, _*_, _≤_}
 use native.Mathlib.Nat.{add-zero}
 use native.Mathlib.Numerals.{add-one}
 use native.Mathlib.Omega.{arith}
 use lib.Dec.{eqb, ltb}
-use lib.ListN.{length, take, drop, length-append, length-drop, drop-of-length-le}
-use lib.Seq.{length-take-le, take-all, take-at, drop-at, drop-drop}
+use lib.ListN.{length, take, drop, length-append, length-drop}
+use lib.Seq.{length-take-le}
 use borrow.Author.Tests.{ltb-false, ne-eqb}
 use Rattle.model.specs.Base.{pick}
 use Rattle.model.specs.Script.{reply, recordAt, replyOf, overwritten, stops, Progress, begun, afterRecord, advanced, times, replay}
@@ -18,19 +18,7 @@ use Rattle.model.specs.declared.Replayed.{Replayed}
 use Rattle.model.specs.declared.Replay.{Replay}
 use Rattle.model.proofs.Readings.{record-codes, record-within, record-advances}
 use Rattle.model.proofs.Replays.{times-more}
-
--- ---- a reply behind those before it
-
--- the part behind what is written is lent, and comes back with a reply written over it
-pub one-more : (done r space now part : List ℕ) (w : ℕ) → w ≡ length done → w ≤ length space → now ≡ overwritten done space
-    → part ≡ overwritten r (take (length now - w) (drop w now))
-    → take w now ++ (part ++ drop (length now - w) (drop w now)) ≡ overwritten (done ++ r) space
-one-more done r space now part w e l h k =
-    let rest : drop w now ≡ drop (length done) space = rw h (drop-at done (drop (length done) space) w (sym e)) in
-    let front : take w now ≡ done = rw h (take-at done (drop (length done) space) w (sym e)) in
-    let all : take (length now - w) (drop w now) ≡ drop w now = take-all (length now - w) (drop w now) (omega (arith, length-drop w now)) in
-    let none : drop (length now - w) (drop w now) ≡ [] = drop-of-length-le (drop w now) {i = length now - w} (omega (arith, length-drop w now)) in
-    rw (none, front, k, all, rest) (simp (append-nil, append-assoc, length-append, drop-drop))
+use Rattle.model.proofs.Spaces.{put-behind}
 
 -- ---- the length of a reply
 
@@ -116,7 +104,7 @@ module _ (z : Controller) (s : List ℕ) (space : List ℕ) where
     pub more : (part : List ℕ) → part ≡ overwritten (replyOf r) (take (length now - w) (drop w now))
         → take w now ++ (part ++ drop (length now - w) (drop w now)) ≡ overwritten (after (suc k) .replies) space
     unfolding afterRecord
-    more part h = rw round (one-more (after k .replies) (replyOf r) space now part w (g .bytes) (g .fits) (g .replies) h)
+    more part h = rw round (put-behind (after k .replies) (replyOf r) space now part w (g .bytes) (g .fits) (g .replies) h)
 
     pub bytes-fit : w + length (replyOf r) ≤ length space
     bytes-fit = rw e (omega (arith, g .fits, reply-fits state s p (length space - w)))

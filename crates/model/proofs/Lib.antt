@@ -1,3 +1,4 @@
+pub mod Spaces
 pub mod Choices
 pub mod Bounded
 pub mod Orders

@@ -1,6 +1,6 @@
 -- Replies read back: one reply at a place, all replies of a list of bytes, and what is promised of that. Document 02: Q-1; the bytes
 -- of a reply are those of document 01, "Bench script".
-use mathlib.Core.Bool.{Bool, true, false, not, _&&_, _||_}
+use mathlib.Core.Bool.{Bool, true, false, not, _||_}
 use mathlib.Core.Path.{_≡_}
 use mathlib.Core.List.{List, [], _∷_, _++_}
 use Prim.Native.Nat.{ℕ, zero, suc, _+_, _-_, _^_, _<_, _≤_}

@@ -11,7 +11,7 @@ use model::Step;
 
 // ---- numbers, low byte first
 
-pub(crate) fn pair(low: u8, high: u8) -> u16
+pub fn pair(low: u8, high: u8) -> u16
     ensures { λ r. ⌜ r ≡ low + high * 256 ⌝ }
 {
     (low as u16) + (high as u16) * 256

@@ -1,0 +1,55 @@
+// Replies read back.
+ghost use mathlib.Core.Path.{_≡_};
+ghost use Prim.Native.Nat.{_+_, _*_, _≤_};
+ghost use lib.ListN.{length};
+ghost use Rattle.model.specs.Replies as replies;
+ghost use Rattle.model.specs.Script as scripts;
+use model::Answer;
+use model::ReplyReading;
+use records::decode::pair;
+
+fn word(a: u8, b: u8, c: u8, d: u8) -> u32
+    ensures { λ r. ⌜ r ≡ a + b * 256 + (c + d * 256) * 65536 ⌝ }
+{
+    (pair(a, b) as u32) + (pair(c, d) as u32) * 65536
+}
+
+// What a reply's body says.
+fn said(b: &[u8]) -> Answer
+    requires { ⌜ 6 ≤ length (now b) ⌝ }
+    ensures { λ r. ⌜ r ≡ record { code = scripts.byteAt (now (b .entry)) 0; lines = scripts.byteAt (now (b .entry)) 1; word = scripts.number32 (now (b .entry)) 2 } ⌝ }
+{
+    Answer {
+        code: b[0],
+        lines: b[1],
+        word: word(b[2], b[3], b[4], b[5]),
+    }
+}
+
+// The reply that begins at a place.
+pub fn reading(given: &[u8], place: usize) -> ReplyReading
+    ensures { λ r. ⌜ r ≡ replies.replyReading (now (given .entry)) place ⌝ }
+{
+    let n = given.len();
+    if n <= place {
+        return ReplyReading::Broken(6);
+    }
+    let left = n - place;
+    if left < 3 {
+        return ReplyReading::Broken(6);
+    }
+    if given[place] != 0x81 {
+        return ReplyReading::Broken(7);
+    }
+    let i = place + 1;
+    let j = i + 1;
+    if pair(given[i], given[j]) != 6 {
+        return ReplyReading::Broken(8);
+    }
+    if left < 9 {
+        return ReplyReading::Broken(6);
+    }
+    let a = place + 3;
+    let b = place + 9;
+    ReplyReading::Said(said(&given[a..b]), b)
+}
