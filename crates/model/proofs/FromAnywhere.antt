@@ -133,7 +133,7 @@ module _ (rest : List ℕ) where
   unfolding reading bodyLength decoded
   opened-reading = reading-behind resetRecord rest 0 refl
 
-  opened-steps : stepsOf (opened rest) ≡ Reset ∷ stepsOf rest
+  pub opened-steps : stepsOf (opened rest) ≡ Reset ∷ stepsOf rest
   unfolding stepsOf stepsBy
   opened-steps = steps-on (opened rest) 0 ∙ rw opened-reading (ap (λ (l : List steps.Step). Reset ∷ l) (steps-rest resetRecord rest 3 (omega arith)))
 

@@ -38,6 +38,7 @@ pub mod MailboxRanges
 pub mod Masks
 pub mod Parts
 pub mod Pieces
+pub mod Lessons
 pub mod QueueRanges
 pub mod Reached
 pub mod FromAnywhere

@@ -321,7 +321,7 @@ only-found false false false true b d n e q k = let z : _≡_ {A = ℕ} 0 1 = cc
 only-found false false false false true d n e q k = let z : _≡_ {A = ℕ} 0 1 = cc in absurd (omega arith)
 only-found false false false false false d n e q k = record { header = refl; tag = refl; size = refl; body = refl; step = cc; place = cc }
 
-bytes-drop : (n : ℕ) (l : List ℕ) → Bytes l → Bytes (drop n l)
+pub bytes-drop : (n : ℕ) (l : List ℕ) → Bytes l → Bytes (drop n l)
 bytes-drop n l h i = rw (getD-drop n l i 0) (h (n + i))
 
 bytes-take : (n : ℕ) (l : List ℕ) → Bytes l → Bytes (take n l)
