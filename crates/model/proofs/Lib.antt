@@ -39,6 +39,7 @@ pub mod Masks
 pub mod Parts
 pub mod Pieces
 pub mod Lessons
+pub mod Writing
 pub mod QueueRanges
 pub mod Reached
 pub mod FromAnywhere
