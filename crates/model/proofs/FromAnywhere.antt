@@ -72,7 +72,7 @@ script-fit : (s : List ℕ) → Bytes s → AllFit (stepsOf s)
 unfolding stepsOf
 script-fit s h = steps-fit (length s) s 0 h
 
-answered-range : (s : List ℕ) (space : ℕ) → Bytes s → StepsRange (answeredSteps s space)
+pub answered-range : (s : List ℕ) (space : ℕ) → Bytes s → StepsRange (answeredSteps s space)
 answered-range s space h = all-range (answeredSteps s space) (fit-take (space / 9) (stepsOf s) (script-fit s h))
 
 pub of-scripts : (s : List ℕ) (space : ℕ) → OfScripts s space
