@@ -143,13 +143,16 @@ elements-part zero s p l = refl
 elements-part (suc n) s p l = rw (drop-cons s p 0 (omega arith)) (ap (λ (t : List ℕ). byteAt s p ∷ t) (elements-part n s (suc p) (omega arith)))
 
 module _ (s : List ℕ) (p : ℕ) where
-  said-as : (a : Answer) (q : ℕ) → replyReading s p ≡ Said a q → Said-as (replyTag s p) (replyLength s p) (replyShort s p) (answerAt s p) (p + 9) a q
+  abbrev Passed : Answer → ℕ → Type 0
+  Passed a q = Said-as (replyTag s p) (replyLength s p) (replyShort s p) (answerAt s p) (p + 9) a q
+
+  passed : (a : Answer) (q : ℕ) → replyReading s p ≡ Said a q → Passed a q
   unfolding replyReading
-  said-as a q k = only-said (headerShort s p) (replyTag s p) (replyLength s p) (replyShort s p) (answerAt s p) (p + 9) a q k
+  passed a q k = only-said (headerShort s p) (replyTag s p) (replyLength s p) (replyShort s p) (answerAt s p) (p + 9) a q k
 
   place : (a : Answer) (q : ℕ) → replyReading s p ≡ Said a q → (q ≡ p + 9) × (q ≤ length s)
   place a q k =
-      let f : Said-as (replyTag s p) (replyLength s p) (replyShort s p) (answerAt s p) (p + 9) a q = said-as a q k in
+      let f : Passed a q = passed a q k in
       (sym (f .place), omega (arith, f .place, ltb-false (length s - p) 9 (f .body)))
 
   stands : Bytes s → replyTag s p ≡ true → replyLength s p ≡ true → p + 9 ≤ length s → part s p (p + 9) ≡ replyOfAnswer (answerAt s p)
@@ -162,7 +165,7 @@ module _ (s : List ℕ) (p : ℕ) where
   pub reply-stands : ReplyStands s p
   reply-stands = record {
     place = place;
-    bytes = λ h a q k. let f : Said-as (replyTag s p) (replyLength s p) (replyShort s p) (answerAt s p) (p + 9) a q = said-as a q k in
+    bytes = λ h a q k. let f : Passed a q = passed a q k in
         rw (← (f .answer), ← (f .place)) (stands h (f .tag) (f .size) (omega (arith, ltb-false (length s - p) 9 (f .body))));
   }
 
@@ -260,19 +263,24 @@ stop-word z s space = go (x .ended) refl
         ap (λ (y : Replayed). y .word) last
         ∙ c .stays (sym (ap (λ (y : Replayed). y .ended) last) ∙ e) (omega (arith, replays z s space .stop .codes e, ap (λ (y : Replayed). y .code) last)) .word
 
+module _ (z : Controller) (s : List ℕ) (space : ℕ) where
+  -- the answers of a replay
+  abbrev all : List Answer
+  all = answersTo z (answeredSteps s space) ++ stopAnswer (replay z s space .result)
+
+  all-replies : replay z s space .replies ≡ repliesOf all
+  all-replies =
+      replays z s space .folds .replies
+      ∙ (λ i. replies-of z (answeredSteps s space) i ++ stop-reply (replay z s space .result) i)
+      ∙ sym (replies-both (answersTo z (answeredSteps s space)) (stopAnswer (replay z s space .result)))
+
+  all-fit : InRange z → Bytes s → WordsFit all
+  all-fit r b =
+      fit-both (answersTo z (answeredSteps s space)) (stopAnswer (replay z s space .result)) (answers-fit z (answeredSteps s space) r (answered-range s space b))
+      (one-fits (replay z s space .result .ended || eqb (replay z s space .result .code) 9) _ (omega (arith, stop-word z s space)))
+
 pub replies-read : (z : Controller) → RepliesRead z
 replies-read z = record {
   steps = λ r l h. rw (replies-of z l) (answers-back (answersTo z l) (answers-fit z l r h));
-  script = λ r s space b. rw (replies s space) (answers-back (answersTo z (answeredSteps s space) ++ stopAnswer (replay z s space .result)) (fits r s space b));
+  script = λ r s space b. rw (all-replies z s space) (answers-back (all z s space) (all-fit z s space r b));
 }
-  where
-    replies : (s : List ℕ) (space : ℕ) → replay z s space .replies ≡ repliesOf (answersTo z (answeredSteps s space) ++ stopAnswer (replay z s space .result))
-    replies s space =
-        replays z s space .folds .replies
-        ∙ (λ i. replies-of z (answeredSteps s space) i ++ stop-reply (replay z s space .result) i)
-        ∙ sym (replies-both (answersTo z (answeredSteps s space)) (stopAnswer (replay z s space .result)))
-
-    fits : InRange z → (s : List ℕ) (space : ℕ) → Bytes s → WordsFit (answersTo z (answeredSteps s space) ++ stopAnswer (replay z s space .result))
-    fits r s space b =
-        fit-both (answersTo z (answeredSteps s space)) (stopAnswer (replay z s space .result)) (answers-fit z (answeredSteps s space) r (answered-range s space b))
-        (one-fits (replay z s space .result .ended || eqb (replay z s space .result .code) 9) _ (omega (arith, stop-word z s space)))
