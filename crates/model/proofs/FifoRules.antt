@@ -156,7 +156,7 @@ high-byte n i = go (ltb (4 + i) n) refl
 
 -- ---- the words of a stored frame
 
-output-words : (q : FifoState) → FifoRange q → (output q .rdt < 2 ^ 32) × (output q .rdl < 2 ^ 32) × (output q .rdh < 2 ^ 32)
+pub output-words : (q : FifoState) → FifoRange q → (output q .rdt < 2 ^ 32) × (output q .rdl < 2 ^ 32) × (output q .rdh < 2 ^ 32)
 unfolding output
 output-words q r =
     pick-cases (λ (x : StoredFrame). (x .rdt < 2 ^ 32) × (x .rdl < 2 ^ 32) × (x .rdh < 2 ^ 32)) (eqb (q .count) 0) noFrame (q .first)

@@ -72,7 +72,7 @@ script-fit : (s : List ℕ) → Bytes s → AllFit (stepsOf s)
 unfolding stepsOf
 script-fit s h = steps-fit (length s) s 0 h
 
-answered-range : (s : List ℕ) (space : ℕ) → Bytes s → StepsRange (answeredSteps s space)
+pub answered-range : (s : List ℕ) (space : ℕ) → Bytes s → StepsRange (answeredSteps s space)
 answered-range s space h = all-range (answeredSteps s space) (fit-take (space / 9) (stepsOf s) (script-fit s h))
 
 pub of-scripts : (s : List ℕ) (space : ℕ) → OfScripts s space
@@ -133,7 +133,7 @@ module _ (rest : List ℕ) where
   unfolding reading bodyLength decoded
   opened-reading = reading-behind resetRecord rest 0 refl
 
-  opened-steps : stepsOf (opened rest) ≡ Reset ∷ stepsOf rest
+  pub opened-steps : stepsOf (opened rest) ≡ Reset ∷ stepsOf rest
   unfolding stepsOf stepsBy
   opened-steps = steps-on (opened rest) 0 ∙ rw opened-reading (ap (λ (l : List steps.Step). Reset ∷ l) (steps-rest resetRecord rest 3 (omega arith)))
 

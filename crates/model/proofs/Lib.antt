@@ -39,6 +39,10 @@ pub mod MailboxRanges
 pub mod Masks
 pub mod Parts
 pub mod Pieces
+pub mod Lessons
+pub mod Writing
+pub mod WordRange
+pub mod AnswersRead
 pub mod QueueRanges
 pub mod Reached
 pub mod FromAnywhere

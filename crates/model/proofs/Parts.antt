@@ -56,13 +56,13 @@ module _ (s : List ℕ) (p q : ℕ) where
       go true e = le-leb (length s) (p + q) (omega (arith, leb-true (length (drop p s)) q e, length-drop p s))
       go false e = lt-leb (length s) (p + q) (omega (arith, leb-false (length (drop p s)) q e, length-drop p s))
 
-  left-shift : length s - (p + q) ≡ length (drop p s) - q
+  pub left-shift : length s - (p + q) ≡ length (drop p s) - q
   left-shift = omega (arith, length-drop p s)
 
-  byte-shift : byteAt s (p + q) ≡ byteAt (drop p s) q
+  pub byte-shift : byteAt s (p + q) ≡ byteAt (drop p s) q
   byte-shift = sym (getD-drop p s q 0)
 
-  number-shift : number16 s (p + q + 1) ≡ number16 (drop p s) (q + 1)
+  pub number-shift : number16 s (p + q + 1) ≡ number16 (drop p s) (q + 1)
   number-shift = simp getD-drop (let e : p + q + 1 ≡ p + (q + 1) = omega arith in let f : p + q + 1 + 1 ≡ p + (q + 1 + 1) = omega arith in rw (f, e))
 
   step-shift : stepAt s (p + q) ≡ stepAt (drop p s) q

@@ -77,7 +77,7 @@ record Table (e a h t w b : Bool) (z : Controller) (n p : ℕ) (x : Stepped) (q 
   atMost : r .code ≤ 9
   writes : replyOf r ≡ pick (e || a) [] (reply (r .code) (r .lines) (r .word))
 
-same-state : (z : Controller) (p k : ℕ) → Unchanged z p (stayed z p k)
+pub same-state : (z : Controller) (p k : ℕ) → Unchanged z p (stayed z p k)
 same-state z p k = record { controller = refl; place = refl; lines = refl; word = refl }
 
 -- a record that is refused with code k
@@ -177,7 +177,7 @@ overwrites r l h = record {
   same = omega (arith, length-append r (drop (length r) l), length-drop (length r) l);
 }
 
-reply-fits : (b a : Bool) (r : List ℕ) (k m w space : ℕ) → ltb space 9 ≡ a → r ≡ pick (b || a) [] (reply k m w) → length r ≤ space
+pub reply-fits : (b a : Bool) (r : List ℕ) (k m w space : ℕ) → ltb space 9 ≡ a → r ≡ pick (b || a) [] (reply k m w) → length r ≤ space
 unfolding reply
 reply-fits true a r k m w space h e = rw e (omega arith)
 reply-fits false true r k m w space h e = rw e (omega arith)

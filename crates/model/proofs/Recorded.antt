@@ -165,7 +165,7 @@ byte-read n h = omega arith
 half-read : (n : ℕ) → n < 2 ^ 16 → n % 256 + n / 256 % 256 * 256 ≡ n
 half-read n h = omega arith
 
-word-read : (n : ℕ) → n < 2 ^ 32 → n % 256 + n / 256 % 256 * 256 + (n / 256 / 256 % 256 + n / 256 / 256 / 256 % 256 * 256) * 65536 ≡ n
+pub word-read : (n : ℕ) → n < 2 ^ 32 → n % 256 + n / 256 % 256 * 256 + (n / 256 / 256 % 256 + n / 256 / 256 / 256 % 256 * 256) * 65536 ≡ n
 word-read n h = omega arith
 
 -- at the front of a script
@@ -227,7 +227,7 @@ samples = record { bytes = refl; steps = all-steps sampleSteps fits }
 -- ---- what is found stands there as its record
 
 -- a list of bytes by its elements
-unfoldable elements : ℕ → List ℕ → ℕ → List ℕ
+unfoldable pub elements : ℕ → List ℕ → ℕ → List ℕ
 elements zero b i = []
 elements (suc n) b i = byteAt b i ∷ elements n b (suc i)
 
@@ -249,7 +249,7 @@ half-bytes x y h i =
     let e : x + (y + 0 * 256) * 256 ≡ x + y * 256 = omega arith in
     rw e at (bytes-number (x ∷ y ∷ []) (more-bytes x (y ∷ []) h (more-bytes y [] i no-bytes)))
 
-word-bytes : (x y z u : ℕ) → x < 256 → y < 256 → z < 256 → u < 256 → bytesOf 4 (x + y * 256 + (z + u * 256) * 65536) ≡ x ∷ y ∷ z ∷ u ∷ []
+pub word-bytes : (x y z u : ℕ) → x < 256 → y < 256 → z < 256 → u < 256 → bytesOf 4 (x + y * 256 + (z + u * 256) * 65536) ≡ x ∷ y ∷ z ∷ u ∷ []
 unfolding numberOf
 word-bytes x y z u h i j k =
     let e : x + (y + (z + (u + 0 * 256) * 256) * 256) * 256 ≡ x + y * 256 + (z + u * 256) * 65536 = omega arith in
@@ -321,7 +321,7 @@ only-found false false false true b d n e q k = let z : _≡_ {A = ℕ} 0 1 = cc
 only-found false false false false true d n e q k = let z : _≡_ {A = ℕ} 0 1 = cc in absurd (omega arith)
 only-found false false false false false d n e q k = record { header = refl; tag = refl; size = refl; body = refl; step = cc; place = cc }
 
-bytes-drop : (n : ℕ) (l : List ℕ) → Bytes l → Bytes (drop n l)
+pub bytes-drop : (n : ℕ) (l : List ℕ) → Bytes l → Bytes (drop n l)
 bytes-drop n l h i = rw (getD-drop n l i 0) (h (n + i))
 
 bytes-take : (n : ℕ) (l : List ℕ) → Bytes l → Bytes (take n l)
@@ -398,7 +398,7 @@ reply-word : (code lines w : ℕ) → drop 5 (reply code lines w) ≡ bytesOf 4 
 unfolding reply
 reply-word code lines w = four-bytes w
 
-reply-parts : (code lines w : ℕ) → reply code lines w ≡ (0x81 ∷ 0x06 ∷ 0x00 ∷ code ∷ lines ∷ []) ++ bytesOf 4 w
+pub reply-parts : (code lines w : ℕ) → reply code lines w ≡ (0x81 ∷ 0x06 ∷ 0x00 ∷ code ∷ lines ∷ []) ++ bytesOf 4 w
 unfolding reply
 reply-parts code lines w = rw (← (reply-word code lines w))
 

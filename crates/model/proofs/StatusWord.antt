@@ -2,8 +2,10 @@
 use mathlib.Core.Bool.{Bool, true, false, not}
 use mathlib.Core.List.{List, [], _∷_}
 use mathlib.Core.Path.{_≡_, refl, sym, ap, _∙_}
-use Prim.Native.Nat.{ℕ, zero, suc, _+_, _*_, _/_, _%_, _^_, _≤_}
+use Prim.Native.Nat.{ℕ, zero, suc, _+_, _*_, _/_, _%_, _^_, _≤_, _<_}
+use native.Mathlib.Nat.{pow-suc}
 use native.Mathlib.Omega.{arith}
+use lib.ListN.{length}
 use borrow.Author.Tests.{eqb-true, eqb-false}
 use Rattle.model.specs.Base.{bit, bits, one}
 use Rattle.model.specs.Queue.{number, senderNumber, flag, holds}
@@ -92,6 +94,13 @@ top-word p t = go (code p t) (one (bit 0 (code p t))) (one (bit 1 (code p t))) (
 status-word : (p : Bool) (t : Transmit) → tsr p t ≡ word (status p t)
 unfolding tsr
 status-word p t = sym (rw (byte-word (t .mailboxes .m0) (t .queue .aborts .m0), byte-word (t .mailboxes .m1) (t .queue .aborts .m1), byte-word (t .mailboxes .m2) (t .queue .aborts .m2), top-word p t) (sums _ _ _ _ _ _ _ _ _ _))
+
+word-below : (l : List Bool) → word l < 2 ^ length l
+word-below [] = omega arith
+word-below (b ∷ l) = omega (arith, word-below l, one-le b, pow-suc 2 (length l))
+
+pub status-small : (p : Bool) (t : Transmit) → tsr p t < 2 ^ 32
+status-small p t = rw (status-word p t) (word-below (status p t))
 
 pub status-bit : (p : Bool) (t : Transmit) (i : ℕ) → bit i (tsr p t) ≡ nth (status p t) i
 status-bit p t i = ap (λ (w : ℕ). bit i w) (status-word p t) ∙ word-bit (status p t) i
