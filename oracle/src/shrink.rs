@@ -76,7 +76,7 @@ fn shrink_records<'a>(pair: &mut Pair, records: &[&'a [u8]]) -> Result<Option<Ve
         Some(last) => last,
         None => return Ok(None),
     };
-    let mut kept = records[..=last.min(records.len().saturating_sub(1))].to_vec();
+    let mut kept = records[..records.len().min(last + 1)].to_vec();
     let mut run = (kept.len() / 2).max(1);
     loop {
         let removed = remove_runs(pair, &mut kept, run)?;
