@@ -31,17 +31,19 @@ fn refusal(controller: &Controller, lesson: &[u8], place: usize, reply: &mut [u8
     if opens_with_reset(lesson, place) || passed_by_mistake(lesson, place, reply.len()) {
         return None;
     }
-    let answer = |code| Answer { code, lines: controller.lines(), word: 0 };
-    let stay = |answer, place| Some(Progress { answer, place, at_end: false });
+    let refused = |code| Progress { answer: Answer { code, lines: controller.lines(), word: 0 }, place, at_end: false };
     if reply.len() < REPLY_LENGTH {
         here!();
         let forgotten = made(Mistake::SpaceForgottenAtOpening);
-        return stay(answer(if forgotten { CODE_OPENING } else { CODE_NO_REPLY_SPACE }), place);
+        return Some(refused(if forgotten { CODE_OPENING } else { CODE_NO_REPLY_SPACE }));
     }
     here!();
-    let answer = answer(CODE_OPENING);
-    script::write_reply(&mut reply[..REPLY_LENGTH], answer);
-    stay(answer, if made(Mistake::PlaceBehindRefusedOpening) { place + RESET_RECORD.len() } else { place })
+    let mut progress = refused(CODE_OPENING);
+    script::write_reply(&mut reply[..REPLY_LENGTH], progress.answer);
+    if made(Mistake::PlaceBehindRefusedOpening) {
+        progress.place += RESET_RECORD.len();
+    }
+    Some(progress)
 }
 
 fn opens_with_reset(lesson: &[u8], place: usize) -> bool {

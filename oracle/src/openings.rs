@@ -34,9 +34,9 @@ fn with_records(opening: &[u8]) -> Vec<u8> {
 
 /// Under three bytes, right and wrong.
 fn prefixes() -> Vec<Vec<u8>> {
-    let short: [&[u8]; 10] =
-        [&[], &[0x01], &[0x01, 0x00], &[0x00], &[0x02], &[0xFF], &[0x00, 0x00], &[0x01, 0x01], &[0x02, 0x02], &[0x81, 0x06]];
-    short.map(|lesson| lesson.to_vec()).to_vec()
+    let none_or_one: [&[u8]; 5] = [&[], &[0x01], &[0x00], &[0x02], &[0xFF]];
+    let two = [[0x01, 0x00], [0x00, 0x00], [0x01, 0x01], [0x02, 0x02], [0x81, 0x06]];
+    none_or_one.into_iter().map(Vec::from).chain(two.map(Vec::from)).collect()
 }
 
 /// One of the three bytes is wrong, then two or all.

@@ -14,33 +14,37 @@ pub fn read_reply(replies: &[u8], place: usize) -> Result<(Answer, usize), Unrea
     if made(Mistake::NoReplyIsTheEnd) && rest.is_empty() {
         return Ok((Answer::default(), place));
     }
-    if made(Mistake::ReplyTagBeforeShortHeader) && rest.first().map_or(false, |&tag| tag != REPLY_TAG) {
-        return Err(Unreadable::UnknownTag(rest[0]));
+    let body = body_of(rest)?;
+    here!();
+    read_body(body).map(|answer| (answer, place + HEADER_LENGTH + body.len()))
+}
+
+/// The body of the first reply of a rest; the tests have the order of a record's.
+fn body_of(rest: &[u8]) -> Result<&[u8], Unreadable> {
+    match *rest {
+        [tag, ..] if made(Mistake::ReplyTagBeforeShortHeader) => check_tag(tag)?,
+        _ => {}
     }
-    let (tag, length, body) = match *rest {
-        [tag, low, _, ref body @ ..] if made(Mistake::ReplyLowLengthByteOnly) => (tag, low as u16, body),
-        [tag, low, high, ref body @ ..] => (tag, u16::from_le_bytes([low, high]), body),
+    let (tag, length, behind) = match *rest {
+        [tag, low, _, ref behind @ ..] if made(Mistake::ReplyLowLengthByteOnly) => (tag, low as u16, behind),
+        [tag, low, high, ref behind @ ..] => (tag, u16::from_le_bytes([low, high]), behind),
         _ => {
             here!();
             return Err(Unreadable::ShortHeader);
         }
     };
-    let header = if made(Mistake::ReplyLengthBeforeTag) {
-        check_length(tag, length, body).and_then(|()| check_tag(tag))
-    } else {
-        check_tag(tag).and_then(|()| check_length(tag, length, body))
-    };
-    header?;
-    let body = match body.get(..length as usize) {
-        Some(body) => body,
+    if made(Mistake::ReplyLengthBeforeTag) {
+        check_length(tag, length, behind)?;
+    }
+    check_tag(tag)?;
+    check_length(tag, length, behind)?;
+    match behind.get(..length as usize) {
+        Some(body) => Ok(body),
         None => {
             here!();
-            return Err(Unreadable::ShortBody);
+            Err(Unreadable::ShortBody)
         }
-    };
-    here!();
-    let next = place + HEADER_LENGTH + body.len();
-    read_body(body).map(|answer| (answer, next))
+    }
 }
 
 fn check_tag(tag: u8) -> Result<(), Unreadable> {
@@ -51,12 +55,12 @@ fn check_tag(tag: u8) -> Result<(), Unreadable> {
     Ok(())
 }
 
-fn check_length(tag: u8, length: u16, body: &[u8]) -> Result<(), Unreadable> {
-    if made(Mistake::ReplyShortBodyBeforeLength) && body.len() < length as usize {
+fn check_length(tag: u8, length: u16, behind: &[u8]) -> Result<(), Unreadable> {
+    if made(Mistake::ReplyShortBodyBeforeLength) && behind.len() < length as usize {
         return Err(Unreadable::ShortBody);
     }
     let seven_taken = made(Mistake::ReplyOfLength7Taken) && length == 7;
-    let rest_refused = made(Mistake::BytesBehindReplyRefused) && body.len() > REPLY_BODY as usize;
+    let rest_refused = made(Mistake::BytesBehindReplyRefused) && behind.len() > REPLY_BODY as usize;
     if length != REPLY_BODY as u16 && !seven_taken || rest_refused {
         here!();
         return Err(Unreadable::WrongLength(tag, length));
@@ -65,10 +69,9 @@ fn check_length(tag: u8, length: u16, body: &[u8]) -> Result<(), Unreadable> {
 }
 
 fn read_body(body: &[u8]) -> Result<Answer, Unreadable> {
-    let [code, lines] = if made(Mistake::ReplyCodeAndLinesExchanged) { [body[1], body[0]] } else { [body[0], body[1]] };
-    let refused = made(Mistake::ReplyCodeAbove9Refused) && code > 9
-        || made(Mistake::ReplyLinesAbove15Refused) && lines > 15;
-    if refused {
+    let exchanged = made(Mistake::ReplyCodeAndLinesExchanged);
+    let [code, lines] = if exchanged { [body[1], body[0]] } else { [body[0], body[1]] };
+    if made(Mistake::ReplyCodeAbove9Refused) && code > 9 || made(Mistake::ReplyLinesAbove15Refused) && lines > 15 {
         return Err(Unreadable::UnknownTag(code));
     }
     let word = [body[2], body[3], body[4], body[5]];

@@ -134,18 +134,20 @@ const SPACES: usize = 13;
 /// The lesson read at places up to past its end, with every reply space, from
 /// a state with lines.
 fn lesson_calls(lesson: &[u8]) -> Vec<LessonCall> {
-    let before = busy();
-    let places = (0..=lesson.len() + 1).chain([lesson.len() + 100]);
-    let call = |place: usize, space: usize| {
-        let (mut after, mut reply) = (before.clone(), [0x55; SPACES]);
-        let progress = lesson::step(&mut after, lesson, place, &mut reply[..space]);
-        LessonCall { place, space, progress, reply, after }
-    };
-    places.flat_map(|place| (0..SPACES).map(move |space| (place, space))).map(|(place, space)| call(place, space)).collect()
+    let before = woken();
+    let mut calls = Vec::new();
+    for place in (0..=lesson.len() + 1).chain([lesson.len() + 100]) {
+        for space in 0..SPACES {
+            let (mut after, mut reply) = (before.clone(), [0x55; SPACES]);
+            let progress = lesson::step(&mut after, lesson, place, &mut reply[..space]);
+            calls.push(LessonCall { place, space, progress, reply, after });
+        }
+    }
+    calls
 }
 
-/// A controller in Sleep whose SCE line is set.
-fn busy() -> Controller {
+/// In Sleep with line 3.
+fn woken() -> Controller {
     let mut controller = Controller::at_reset();
     controller.write(0x14, 0x0003_0000);
     controller.activity();

@@ -11,7 +11,8 @@ pub const LONGEST_RECORD: usize = 16;
 const CODE_TOO_WIDE: u8 = 5;
 const CODE_NO_SPACE: u8 = 9;
 
-/// A step as a caller has it, with numbers wider than the record's fields.
+/// A step as a caller has it, with numbers wider than the record's fields. A
+/// frame's data words are its bytes 0 to 3 and 4 to 7.
 #[derive(Clone, Copy, PartialEq, Eq, Debug)]
 pub enum WideStep {
     Reset,
@@ -22,7 +23,6 @@ pub enum WideStep {
     Activity,
     Start,
     OwnEnd(u32),
-    /// Bytes 0 to 3 are the first data word, bytes 4 to 7 the second.
     Frame { identifier: u32, length: u32, data: [u32; 2] },
     ReceiveError { code: u32, step: u32 },
 }
