@@ -1,14 +1,20 @@
 //! The subcommands.
 
+use crate::broken_replies;
 use crate::comparisons::{self, Search};
 use crate::controller::Controller;
+use crate::encode::{self, REQUEST_LENGTH};
 use crate::generate::{generate, Kind, KINDS};
+use crate::lesson::{self, CODE_OPENING};
 use crate::malformed;
+use crate::openings;
 use crate::probe::MISTAKES;
 use crate::race;
+use crate::replies::{self, read_reply};
 use crate::requests::Requests;
-use crate::script::{self, decode, Step, REPLY_LENGTH};
+use crate::script::{self, decode, Step, CODE_SHORT, REPLY_LENGTH};
 use crate::shrink;
+use crate::writer::RESET_RECORD;
 use crate::USAGE;
 use std::fs::File;
 use std::io::{self, Read, Write};
@@ -16,9 +22,7 @@ use std::os::unix::io::AsFd;
 
 const READ_TO_THE_END: u8 = 0;
 const DEMAND_VIOLATED: u8 = 1;
-const UNREADABLE_RECORD: u8 = 2;
-/// The lowest code that ends a replay: a record that is cut short.
-const CODE_SHORT: u8 = 6;
+const UNREADABLE: u8 = 2;
 /// Scripts are read, and replies written, in pieces of about this size.
 const PIECE: usize = 1 << 16;
 
@@ -26,9 +30,13 @@ type Status = Result<u8, String>;
 
 pub fn run(words: &[&str]) -> Status {
     match words {
+        ["replay", "--lesson", options @ ..] => {
+            choose_variant(options)?;
+            replay_lesson()
+        }
         ["replay", options @ ..] => {
             choose_variant(options)?;
-            replay()
+            replay(&[])
         }
         ["check", options @ ..] => {
             choose_variant(options)?;
@@ -42,9 +50,20 @@ pub fn run(words: &[&str]) -> Status {
             choose_variant(options)?;
             list_searches(|search| search.compared)
         }
+        ["encode", options @ ..] => {
+            choose_variant(options)?;
+            write_records()
+        }
+        ["replies", options @ ..] => {
+            choose_variant(options)?;
+            list_replies()
+        }
         ["generate", seed, records] => write_generated(seed, records, "mix"),
         ["generate", seed, records, kind] => write_generated(seed, records, kind),
         ["malformed", seed, count, folder] => malformed::write_files(number(seed)?, number(count)?, folder),
+        ["encode-requests", seed, count] => write_requests(seed, count),
+        ["broken-replies", seed, count, folder] => broken_replies::write_files(number(seed)?, number(count)?, folder),
+        ["openings", folder] => openings::write_files(folder),
         ["shrink", a, b, file] => shrink::shrink(a, b, file),
         ["race", a, b, file, rounds] => race::race(a, b, file, number(rounds)?),
         ["words"] => print_words(),
@@ -113,14 +132,15 @@ impl Output {
     }
 }
 
-/// Replays standard input a piece at a time.
-fn replay() -> Status {
+/// Replays standard input a piece at a time, behind what was read of it before.
+fn replay(start: &[u8]) -> Status {
     let mut input = io::stdin().lock();
     let mut output = Output::new()?;
     let mut controller = Controller::at_reset();
     let mut space = vec![0; PIECE];
     let mut replies = vec![0; PIECE];
-    let (mut record, mut bytes, mut held, mut filled) = (0u64, 0, 0, 0);
+    space[..start.len()].copy_from_slice(start);
+    let (mut record, mut bytes, mut held, mut filled) = (0u64, 0, start.len(), 0);
     loop {
         let got = input.read(&mut space[held..]).map_err(|error| error.to_string())?;
         let script = &space[..held + got];
@@ -137,7 +157,7 @@ fn replay() -> Status {
                 }
                 output.write(&replies[..filled + REPLY_LENGTH]);
                 say_unreadable(&script[place..], record, bytes + place);
-                return Ok(UNREADABLE_RECORD);
+                return Ok(UNREADABLE);
             }
             filled += REPLY_LENGTH;
             if replies.len() - filled < REPLY_LENGTH {
@@ -152,6 +172,101 @@ fn replay() -> Status {
             return Ok(READ_TO_THE_END);
         }
         held = script.len() - place;
+        bytes += place;
+        space.copy_within(place..place + held, 0);
+    }
+}
+
+/// Asks the lesson reader about the opening; the replay itself begins with it again.
+fn replay_lesson() -> Status {
+    let mut opening = Vec::new();
+    read_at_most(RESET_RECORD.len(), &mut io::stdin().lock(), &mut opening)?;
+    let mut reply = [0; REPLY_LENGTH];
+    let code = lesson::step(&mut Controller::at_reset(), &opening, 0, &mut reply).answer.code;
+    if code == CODE_OPENING {
+        Output::new()?.write(&reply);
+        say_opening(&opening);
+        if lesson::ends_replay(code) {
+            return Ok(UNREADABLE);
+        }
+    }
+    replay(&opening)
+}
+
+fn say_opening(opening: &[u8]) {
+    let right = hex(&RESET_RECORD);
+    let begins = if opening.is_empty() { "is empty".into() } else { format!("begins with {}", hex(opening)) };
+    eprintln!("lesson: it does not open with {right}, it {begins} (code {CODE_OPENING})");
+}
+
+/// Up to `count` bytes; fewer only where the input ends.
+fn read_at_most(count: usize, input: &mut impl Read, bytes: &mut Vec<u8>) -> Result<(), String> {
+    bytes.clear();
+    input.take(count as u64).read_to_end(bytes).map_err(|error| error.to_string())?;
+    Ok(())
+}
+
+/// Answers the requests on standard input to write a record.
+fn write_records() -> Status {
+    let mut input = io::stdin().lock();
+    let mut output = Output::new()?;
+    let (mut request, mut answers) = (Vec::new(), Vec::new());
+    for number in 0u64.. {
+        read_at_most(REQUEST_LENGTH, &mut input, &mut request)?;
+        if request.is_empty() {
+            break;
+        }
+        match encode::answer(&request) {
+            Ok(answer) => answers.extend_from_slice(&answer),
+            Err(reason) => {
+                output.write(&answers);
+                eprintln!("encode: request {} at byte {}: {reason}", number + 1, number * REQUEST_LENGTH as u64);
+                return Ok(UNREADABLE);
+            }
+        }
+        if answers.len() >= PIECE {
+            output.write(&answers);
+            answers.clear();
+        }
+    }
+    output.write(&answers);
+    Ok(READ_TO_THE_END)
+}
+
+/// One line for each reply on standard input, with its number from 1.
+fn list_replies() -> Status {
+    let mut input = io::stdin().lock();
+    let mut output = Output::new()?;
+    let mut lines = replies::heading();
+    let mut space = vec![0; PIECE];
+    let (mut reply, mut bytes, mut held) = (0u64, 0, 0);
+    loop {
+        let got = input.read(&mut space[held..]).map_err(|error| error.to_string())?;
+        let piece = &space[..held + got];
+        let mut place = 0;
+        while place < piece.len() {
+            match read_reply(piece, place) {
+                Ok((answer, next)) => {
+                    reply += 1;
+                    lines += &replies::line(reply, answer);
+                    place = next;
+                }
+                // The rest of a reply that is cut short may come with the next piece.
+                Err(unreadable) if unreadable.code() == CODE_SHORT && got > 0 => break,
+                Err(unreadable) => {
+                    output.write(lines.as_bytes());
+                    let (number, code, reason) = (reply + 1, unreadable.code(), unreadable.in_words());
+                    eprintln!("replies: reply {number} at byte {}: malformed {code}: {reason}", bytes + place);
+                    return Ok(UNREADABLE);
+                }
+            }
+        }
+        output.write(lines.as_bytes());
+        lines.clear();
+        if got == 0 {
+            return Ok(READ_TO_THE_END);
+        }
+        held = piece.len() - place;
         bytes += place;
         space.copy_within(place..place + held, 0);
     }
@@ -181,11 +296,11 @@ fn check() -> Status {
         replies.extend_from_slice(&reply);
         if progress.answer.code >= CODE_SHORT {
             say_unreadable(&script[place..], record, place);
-            break UNREADABLE_RECORD;
+            break UNREADABLE;
         }
         let step = match decode(&script[place..]) {
             Ok((step, _)) => step,
-            Err(_) => break UNREADABLE_RECORD,
+            Err(_) => break UNREADABLE,
         };
         let kept = requests.feed(record, step, progress.answer).and_then(|()| requests.check_tme(tsr_of(&controller)));
         if let Err(violation) = kept {
@@ -217,7 +332,7 @@ fn list_searches(count: impl Fn(Search) -> usize) -> Status {
     match stop {
         Some((record, place)) => {
             say_unreadable(&script[place..], record, place);
-            Ok(UNREADABLE_RECORD)
+            Ok(UNREADABLE)
         }
         None => Ok(READ_TO_THE_END),
     }
@@ -231,6 +346,11 @@ fn tsr_of(controller: &Controller) -> u32 {
 fn write_generated(seed: &str, records: &str, kind: &str) -> Status {
     let kind = kind_named(kind)?;
     Output::new()?.write(&generate(number(seed)?, number(records)?, kind));
+    Ok(0)
+}
+
+fn write_requests(seed: &str, count: &str) -> Status {
+    Output::new()?.write(&encode::requests(number(seed)?, number(count)?));
     Ok(0)
 }
 

@@ -1,22 +1,31 @@
-//! What the generated scripts reach: the branches marked `here!()`, and the
-//! meetings of a step with the state it finds, seen from outside.
+//! What the generated scripts, requests, replies and lessons reach: the
+//! branches marked `here!()`, and the meetings of a step with the state it
+//! finds, seen from outside.
 
+use crate::broken_replies::broken_replies;
 use crate::controller::{Answer, Controller, Mode};
+use crate::encode::{self, REQUEST_LENGTH};
 use crate::generate::{generate, Kind, KINDS};
+use crate::lesson;
 use crate::malformed::broken_script;
+use crate::openings::openings;
 use crate::registers::{mcr, Register, FIFOS};
-use crate::script::{decode, step, Step, REPLY_LENGTH};
+use crate::replies::read_reply;
+use crate::script::{decode, step, Step, CODE_SHORT, REPLY_LENGTH};
 use std::collections::BTreeMap;
 use std::sync::atomic::{AtomicU64, Ordering::Relaxed};
 
 /// The sources that carry marks.
-const SOURCES: [(&str, &str); 6] = [
+const SOURCES: [(&str, &str); 9] = [
     ("controller.rs", include_str!("controller.rs")),
     ("mailbox.rs", include_str!("mailbox.rs")),
     ("fifo.rs", include_str!("fifo.rs")),
     ("filter.rs", include_str!("filter.rs")),
     ("registers.rs", include_str!("registers.rs")),
     ("script.rs", include_str!("script.rs")),
+    ("writer.rs", include_str!("writer.rs")),
+    ("replies.rs", include_str!("replies.rs")),
+    ("lesson.rs", include_str!("lesson.rs")),
 ];
 
 const MOST_LINES: usize = 2048;
@@ -32,7 +41,8 @@ pub fn pass(file: &str, line: u32) {
     PASSES[index.expect("a source with marks is listed")][line as usize].fetch_add(1, Relaxed);
 }
 
-/// Runs scripts of all kinds, or of one, and some broken ones.
+/// Runs scripts of all kinds, or of one, and some broken ones; then what the
+/// writer and the two readers are given.
 pub fn report(seeds: u64, records: u64, only: Option<Kind>) -> Result<u8, String> {
     let mut meetings = Meetings::expected();
     let left_out = |kind: Kind| matches!(kind, Kind::Requests | Kind::Search(_));
@@ -43,6 +53,9 @@ pub fn report(seeds: u64, records: u64, only: Option<Kind>) -> Result<u8, String
         }
     }
     (0..400).for_each(|index| run(&broken_script(1, index), &mut meetings));
+    encode::requests(1, 0).chunks(REQUEST_LENGTH).for_each(|request| meetings.note_request(request));
+    (0..400).for_each(|index| meetings.note_replies(&broken_replies(1, index)));
+    openings().iter().for_each(|lesson| meetings.note_lesson(lesson));
     let branches = report_branches();
     let missing = meetings.report();
     Ok((branches + missing > 0) as u8)
@@ -63,7 +76,7 @@ fn run(script: &[u8], meetings: &mut Meetings) {
         if progress.at_end {
             return;
         }
-        if progress.answer.code >= 6 {
+        if progress.answer.code >= CODE_SHORT {
             return meetings.note(format!("script: unreadable, code {}", progress.answer.code));
         }
         if let Ok((step, _)) = decode(&script[place..]) {
@@ -126,6 +139,8 @@ impl Meetings {
         expect_modes(&mut meetings);
         expect_fifos(&mut meetings);
         expect_own_ends(&mut meetings);
+        expect_writer(&mut meetings);
+        expect_readers(&mut meetings);
         meetings
     }
 
@@ -257,6 +272,41 @@ impl Meetings {
         }
     }
 
+    fn note_request(&mut self, request: &[u8]) {
+        if let Ok(answer) = encode::answer(request) {
+            self.note(format!("record of tag {:02X} written, code {}", request[4], answer[0]));
+        }
+    }
+
+    fn note_replies(&mut self, replies: &[u8]) {
+        let mut place = 0;
+        while let Ok((_, next)) = read_reply(replies, place) {
+            self.note("reply read".into());
+            place = next;
+        }
+        if let Err(unreadable) = read_reply(replies, place) {
+            let what = if place == replies.len() { "no reply" } else { "reply" };
+            self.note(format!("{what}: unreadable, code {}", unreadable.code()));
+        }
+    }
+
+    /// Reads a lesson at every place, without and with reply space.
+    fn note_lesson(&mut self, lesson: &[u8]) {
+        for place in 0..=lesson.len() + 1 {
+            for space in [0, REPLY_LENGTH - 1, REPLY_LENGTH] {
+                let mut reply = [0; REPLY_LENGTH];
+                let progress = lesson::step(&mut Controller::at_reset(), lesson, place, &mut reply[..space]);
+                let at = match place {
+                    0 => "at its start",
+                    place if place < lesson.len() => "inside",
+                    place if place == lesson.len() => "at its end",
+                    _ => "past its end",
+                };
+                self.note(format!("lesson read {at}, code {}", progress.answer.code));
+            }
+        }
+    }
+
     /// Notes the reason if there is just one.
     fn note_only(&mut self, what: &str, reasons: &[(&str, bool)]) {
         let mut given = reasons.iter().filter(|(_, given)| *given);
@@ -356,4 +406,25 @@ fn expect_own_ends(meetings: &mut Meetings) {
     for wire in ["on the wire", "none on the wire"] {
         meetings.0.insert(format!("own end 8 refused by 5, {wire}, no loopback"), 0);
     }
+}
+
+/// Every record written and without space, and too wide where it has a narrow field.
+fn expect_writer(meetings: &mut Meetings) {
+    for tag in 0x01..=0x0A {
+        let codes: &[u8] = if [0x02, 0x03, 0x05, 0x08, 0x09, 0x0A].contains(&tag) { &[0, 5, 9] } else { &[0, 9] };
+        for code in codes {
+            meetings.0.insert(format!("record of tag {tag:02X} written, code {code}"), 0);
+        }
+    }
+}
+
+fn expect_readers(meetings: &mut Meetings) {
+    let mut expect = |text: String| _ = meetings.0.insert(text, 0);
+    expect("reply read".into());
+    expect("no reply: unreadable, code 6".into());
+    (6..=8).for_each(|code| expect(format!("reply: unreadable, code {code}")));
+    for at in ["at its start", "inside", "at its end", "past its end"] {
+        [0, 9, 11].iter().for_each(|code| expect(format!("lesson read {at}, code {code}")));
+    }
+    (6..=8).for_each(|code| expect(format!("lesson read inside, code {code}")));
 }

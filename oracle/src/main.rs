@@ -2,19 +2,24 @@
 //! generator of scripts and the tools to compare another one with it.
 #![allow(unexpected_cfgs)]
 
+mod broken_replies;
 mod commands;
 mod comparisons;
 mod controller;
 #[cfg(coverage)]
 mod coverage;
+mod encode;
 mod fifo;
 mod filter;
 mod generate;
+mod lesson;
 mod mailbox;
 mod malformed;
+mod openings;
 mod probe;
 mod race;
 mod registers;
+mod replies;
 mod requests;
 mod rng;
 mod script;
@@ -23,21 +28,27 @@ mod shrink;
 mod tell_apart;
 #[cfg(test)]
 mod tests;
+mod writer;
 
 use std::process::ExitCode;
 
 const USAGE: &str = "usage:
-  oracle replay                          script on standard input, replies on standard output
+  oracle replay [--lesson]               script on standard input, replies on standard output
   oracle check                           as replay, with the request book; 1 if demand 3 is violated
   oracle compared [--bound]              script on standard input, how many filters each search compares, or at most may
+  oracle encode                          requests to write a record on standard input, answers on standard output
+  oracle replies                         replies on standard input, one line for each
   oracle generate SEED RECORDS [KIND]    a script by seed
   oracle malformed SEED COUNT DIR        COUNT broken scripts as files in DIR
+  oracle encode-requests SEED COUNT      requests for encode: all fields at their limits, then by seed
+  oracle broken-replies SEED COUNT DIR   COUNT files of replies in DIR, broken and whole
+  oracle openings DIR                    lessons in DIR that open well and otherwise
   oracle shrink A B SCRIPT               the fewest records on which commands A and B differ
   oracle race A B SCRIPT ROUNDS          the times of commands A and B, and their ratio
   oracle words                           script on standard input, in words
   oracle wrong-list                      the wrong variants by number
  built with --cfg wrong:
-  oracle-wrong replay|check|compared --wrong K  a wrong variant
+  oracle-wrong replay [--lesson]|check|compared|encode|replies --wrong K  a wrong variant
   oracle-wrong tell-apart SEEDS RECORDS  where each variant differs from the right one
  built with --cfg coverage:
   oracle-coverage coverage SEEDS RECORDS [KIND]  which branches the generated scripts reach";

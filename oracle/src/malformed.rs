@@ -44,7 +44,7 @@ fn known_tag(turn: u64) -> u8 {
 }
 
 /// The body length that belongs to a known tag.
-fn needed(tag: u8) -> usize {
+pub fn needed(tag: u8) -> usize {
     match tag {
         0x02 | 0x05 | 0x0A => 2,
         0x03 => 6,
@@ -54,7 +54,7 @@ fn needed(tag: u8) -> usize {
     }
 }
 
-fn whole_record(tag: u8, rng: &mut Rng) -> Vec<u8> {
+pub fn whole_record(tag: u8, rng: &mut Rng) -> Vec<u8> {
     let mut record = vec![tag, needed(tag) as u8, 0];
     record.extend((0..needed(tag)).map(|_| rng.word() as u8));
     record
@@ -138,6 +138,6 @@ fn odd_cases(script: &mut Vec<u8>, turn: u64, rng: &mut Rng) {
     }
 }
 
-fn append_random(script: &mut Vec<u8>, rng: &mut Rng, count: u64) {
+pub fn append_random(script: &mut Vec<u8>, rng: &mut Rng, count: u64) {
     script.extend((0..count).map(|_| rng.word() as u8));
 }

@@ -5,10 +5,13 @@ use crate::fifo::Frame;
 use crate::here;
 use crate::probe::{made, Mistake};
 use crate::registers::Register;
+use crate::writer::{write_record, LONGEST_RECORD};
 
+pub const HEADER_LENGTH: usize = 3;
 pub const REPLY_LENGTH: usize = 9;
-const HEADER_LENGTH: usize = 3;
-const REPLY_TAG: u8 = 0x81;
+pub const REPLY_TAG: u8 = 0x81;
+/// How many bytes a reply's body has.
+pub const REPLY_BODY: u8 = 6;
 
 /// One record of a script, read.
 #[derive(Clone, Copy, PartialEq, Eq, Debug)]
@@ -37,7 +40,7 @@ pub enum Unreadable {
 impl Unreadable {
     pub fn code(self) -> u8 {
         match self {
-            Unreadable::ShortHeader | Unreadable::ShortBody => 6,
+            Unreadable::ShortHeader | Unreadable::ShortBody => CODE_SHORT,
             Unreadable::UnknownTag(_) => 7,
             Unreadable::WrongLength(..) => 8,
         }
@@ -53,7 +56,9 @@ impl Unreadable {
     }
 }
 
-const CODE_NO_REPLY_SPACE: u8 = 9;
+/// The lowest code that ends a replay: a record that is cut short.
+pub const CODE_SHORT: u8 = 6;
+pub const CODE_NO_REPLY_SPACE: u8 = 9;
 
 /// What one call of `step` gives back, beside the reply it writes.
 #[derive(Clone, Copy, PartialEq, Eq, Debug)]
@@ -86,10 +91,10 @@ pub fn step(controller: &mut Controller, script: &[u8], place: usize, reply: &mu
     Progress { answer, place: next, at_end: false }
 }
 
-fn write_reply(reply: &mut [u8], answer: Answer) {
+pub fn write_reply(reply: &mut [u8], answer: Answer) {
     let lines = if made(Mistake::RefusalLinesZero) && answer.code >= 6 { 0 } else { answer.lines };
     let [w0, w1, w2, w3] = answer.word.to_le_bytes();
-    reply.copy_from_slice(&[REPLY_TAG, 6, 0, answer.code, lines, w0, w1, w2, w3]);
+    reply.copy_from_slice(&[REPLY_TAG, REPLY_BODY, 0, answer.code, lines, w0, w1, w2, w3]);
 }
 
 /// Reads the first record of a rest that isn't empty; gives its length too.
@@ -160,7 +165,7 @@ fn number_16(body: &[u8]) -> u16 {
     u16::from_le_bytes([body[0], body[1]])
 }
 
-fn number_32(body: &[u8]) -> u32 {
+pub fn number_32(body: &[u8]) -> u32 {
     u32::from_le_bytes([body[0], body[1], body[2], body[3]])
 }
 
@@ -205,25 +210,9 @@ impl Step {
 
     /// Appends the record of this step to a script.
     pub fn encode(self, script: &mut Vec<u8>) {
-        let mut record = |tag: u8, parts: &[&[u8]]| {
-            let length: usize = parts.iter().map(|part| part.len()).sum();
-            script.extend_from_slice(&[tag, length as u8, 0]);
-            parts.iter().for_each(|part| script.extend_from_slice(part));
-        };
-        match self {
-            Step::Reset => record(0x01, &[]),
-            Step::Read(offset) => record(0x02, &[&offset.to_le_bytes()]),
-            Step::Write(offset, word) => record(0x03, &[&offset.to_le_bytes(), &word.to_le_bytes()]),
-            Step::Idle => record(0x04, &[]),
-            Step::BitTimes(count) => record(0x05, &[&count.to_le_bytes()]),
-            Step::Activity => record(0x06, &[]),
-            Step::Start => record(0x07, &[]),
-            Step::OwnEnd(result) => record(0x08, &[&[result]]),
-            Step::Frame(frame) => {
-                record(0x09, &[&frame.identifier.to_le_bytes(), &[frame.length], &frame.data.to_le_bytes()])
-            }
-            Step::ReceiveError { code, step } => record(0x0A, &[&[code, step]]),
-        }
+        let mut space = [0; LONGEST_RECORD];
+        let written = write_record(self.into(), &mut space);
+        script.extend_from_slice(&space[..written.bytes]);
     }
 
     pub fn in_words(self) -> String {

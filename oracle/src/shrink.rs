@@ -2,11 +2,10 @@
 
 use crate::commands::{hex, record_line};
 use crate::script::{decode, REPLY_LENGTH};
+use crate::writer::RESET_RECORD;
 use std::fs::{self, File};
 use std::path::PathBuf;
 use std::process::{Command, Stdio};
-
-const RESET: [u8; 3] = [1, 0, 0];
 
 struct Pair<'a> {
     commands: [&'a str; 2],
@@ -77,7 +76,7 @@ fn shrink_records<'a>(pair: &mut Pair, records: &[&'a [u8]]) -> Result<Option<Ve
         Some(last) => last,
         None => return Ok(None),
     };
-    let mut kept = records[..=last.min(records.len().saturating_sub(1))].to_vec();
+    let mut kept = records[..records.len().min(last + 1)].to_vec();
     let mut run = (kept.len() / 2).max(1);
     loop {
         let removed = remove_runs(pair, &mut kept, run)?;
@@ -93,7 +92,7 @@ fn shrink_records<'a>(pair: &mut Pair, records: &[&'a [u8]]) -> Result<Option<Ve
 fn remove_runs(pair: &mut Pair, kept: &mut Vec<&[u8]>, run: usize) -> Result<bool, String> {
     let mut removed = false;
     let mut end = kept.len();
-    let pinned = kept.first().map_or(false, |record| **record == RESET) as usize;
+    let pinned = kept.first().map_or(false, |record| **record == RESET_RECORD) as usize;
     while end > pinned {
         let start = end.saturating_sub(run).max(pinned);
         let mut candidate = kept.clone();

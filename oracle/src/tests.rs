@@ -1,14 +1,21 @@
 //! Document 01's numbers on the wall, its whole script, and some of the
-//! settled readings, each as a short history of steps.
+//! settled readings, each as a short history of steps; then the writer and the
+//! readers of Q-1.
 
+use crate::broken_replies::broken_replies;
 use crate::comparisons;
 use crate::controller::{Answer, Controller, Mode};
+use crate::encode::{self, REQUEST_LENGTH};
 use crate::fifo::Frame;
 use crate::filter::{Filters, Hit};
 use crate::generate::{generate, Kind, KINDS};
-use crate::malformed::broken_script;
+use crate::lesson;
+use crate::malformed::{broken_script, whole_record};
+use crate::openings::openings;
+use crate::replies::{self, read_reply};
 use crate::rng::Rng;
 use crate::script::{decode, step, Step, REPLY_LENGTH};
+use crate::writer::{write_record, WideStep, Written, RESET_RECORD};
 
 const MCR: u16 = 0x00;
 const MSR: u16 = 0x04;
@@ -647,4 +654,328 @@ fn comparisons_of_the_lessons() {
         assert_eq!(searches.len(), 164);
         assert!(searches.iter().all(|&(_, count)| count == compared), "{name}");
     }
+}
+
+/// A frame with this identifier word and length code.
+fn wide_frame(identifier: u32, length: u32) -> WideStep {
+    WideStep::Frame { identifier, length, data: [0xA3A2_A1A0, 0xB3B2_B1B0] }
+}
+
+/// A step of every tag and its record.
+fn written_records() -> [(WideStep, Vec<u8>); 10] {
+    let frame = [0x09, 0x0D, 0, 0x44, 0x33, 0x22, 0x11, 8, 0xA0, 0xA1, 0xA2, 0xA3, 0xB0, 0xB1, 0xB2, 0xB3];
+    [
+        (WideStep::Reset, vec![0x01, 0, 0]),
+        (WideStep::Read(0x21C), vec![0x02, 2, 0, 0x1C, 0x02]),
+        (WideStep::Write(0x184, 0x1234_5678), vec![0x03, 6, 0, 0x84, 0x01, 0x78, 0x56, 0x34, 0x12]),
+        (WideStep::Idle, vec![0x04, 0, 0]),
+        (WideStep::BitTimes(0xABCD), vec![0x05, 2, 0, 0xCD, 0xAB]),
+        (WideStep::Activity, vec![0x06, 0, 0]),
+        (WideStep::Start, vec![0x07, 0, 0]),
+        (WideStep::OwnEnd(7), vec![0x08, 1, 0, 7]),
+        (wide_frame(0x1122_3344, 8), frame.to_vec()),
+        (WideStep::ReceiveError { code: 6, step: 8 }, vec![0x0A, 2, 0, 6, 8]),
+    ]
+}
+
+#[test]
+fn records_as_they_are_written() {
+    for (wide, record) in written_records() {
+        for space in 0..=20 {
+            let mut buffer = [0xEE; 20];
+            let written = write_record(wide, &mut buffer[..space]);
+            if space < record.len() {
+                assert_eq!(written, Written { code: 9, bytes: 0 });
+                assert_eq!(buffer, [0xEE; 20]);
+            } else {
+                assert_eq!(written, Written { code: 0, bytes: record.len() });
+                assert_eq!(buffer[..record.len()], record);
+                assert!(buffer[record.len()..].iter().all(|&byte| byte == 0xEE));
+            }
+        }
+    }
+}
+
+/// Each field of a record that is narrower than its number, with its limit.
+fn narrow_fields() -> [(fn(u32) -> WideStep, u32); 7] {
+    [
+        (WideStep::Read, 65_535),
+        (|offset| WideStep::Write(offset, u32::MAX), 65_535),
+        (WideStep::BitTimes, 65_535),
+        (WideStep::OwnEnd, 255),
+        (|length| wide_frame(u32::MAX, length), 255),
+        (|code| WideStep::ReceiveError { code, step: 255 }, 255),
+        (|step| WideStep::ReceiveError { code: 255, step }, 255),
+    ]
+}
+
+#[test]
+fn numbers_wider_than_their_field_are_refused() {
+    for (step, limit) in narrow_fields() {
+        let mut buffer = [0xEE; 20];
+        let length = write_record(step(limit), &mut buffer).bytes;
+        assert!(length > 3);
+        for number in [limit + 1, limit + 2, limit + 256, 1 << 31, u32::MAX] {
+            let mut buffer = [0xEE; 20];
+            for space in 0..=20 {
+                let code = if space < length { 9 } else { 5 };
+                assert_eq!(write_record(step(number), &mut buffer[..space]), Written { code, bytes: 0 });
+            }
+            assert_eq!(buffer, [0xEE; 20]);
+        }
+    }
+}
+
+#[test]
+fn what_only_the_controller_refuses_is_written() {
+    let steps = [
+        (WideStep::Read(0x401), 1),
+        (WideStep::Write(65_535, 0), 1),
+        (WideStep::BitTimes(0), 5),
+        (WideStep::OwnEnd(200), 5),
+        (wide_frame(1, 8), 5),
+        (wide_frame(8, 8), 5),
+        (wide_frame(0, 255), 5),
+        (WideStep::ReceiveError { code: 0, step: 1 }, 5),
+        (WideStep::ReceiveError { code: 1, step: 0 }, 5),
+    ];
+    for (wide, code) in steps {
+        let mut record = [0; 20];
+        let written = write_record(wide, &mut record);
+        assert_eq!(written.code, 0);
+        let (step, length) = decode(&record).expect("a record");
+        assert_eq!((WideStep::from(step), length), (wide, written.bytes));
+        assert_eq!(step.apply(&mut Controller::at_reset()).code, code);
+    }
+}
+
+/// Writes what was read of a script, which gives its bytes.
+fn write_again(script: &[u8]) {
+    let (mut place, mut space) = (0, [0; 20]);
+    while place < script.len() {
+        let (step, length) = decode(&script[place..]).expect("well-formed");
+        let written = write_record(step.into(), &mut space);
+        assert_eq!(written, Written { code: 0, bytes: length });
+        assert_eq!(space[..length], script[place..place + length]);
+        assert_eq!(decode(&space), Ok((step, length)));
+        place += length;
+    }
+}
+
+#[test]
+fn what_was_read_is_written_again() {
+    for (_, kind) in KINDS {
+        write_again(&generate(9, 3000, kind));
+    }
+    let mut rng = Rng::new(21);
+    for turn in 0..5000u64 {
+        write_again(&whole_record(1 + (turn % 10) as u8, &mut rng));
+    }
+}
+
+fn number_at(request: &[u8], place: usize) -> u32 {
+    crate::script::number_32(&request[4 * place..])
+}
+
+#[test]
+fn requests_are_answered() {
+    let systematic = encode::requests(1, 0).len() / REQUEST_LENGTH;
+    assert_eq!(systematic, 9366);
+    assert_eq!(encode::requests(1, 10), encode::requests(2, 0));
+    let requests = encode::requests(3, 20_000);
+    assert_eq!(requests.len(), 20_000 * REQUEST_LENGTH);
+    let mut codes = [0; 10];
+    for request in requests.chunks(REQUEST_LENGTH) {
+        let answer = encode::answer(request).expect("valid");
+        let (code, bytes, space) = (answer[0], answer[1] as usize, number_at(request, 0) as usize);
+        codes[code as usize] += 1;
+        assert!(bytes <= space && answer[2 + bytes..].iter().all(|&byte| byte == 0xEE));
+        if code == 0 {
+            assert_eq!(answer[2] as u32, number_at(request, 1));
+            assert_eq!(decode(&answer[2..]).map(|(_, length)| length), Ok(bytes));
+        } else {
+            assert_eq!(bytes, 0);
+        }
+    }
+    assert!([0, 5, 9].iter().all(|&code| codes[code] > 1000) && codes.iter().sum::<u32>() == 20_000);
+}
+
+fn request(numbers: [u32; 6]) -> Vec<u8> {
+    numbers.iter().flat_map(|number| number.to_le_bytes()).collect()
+}
+
+#[test]
+fn requests_take_their_numbers_in_the_order_of_the_record() {
+    for (wide, record) in written_records() {
+        let numbers = match wide {
+            WideStep::Read(a) | WideStep::BitTimes(a) | WideStep::OwnEnd(a) => [a, 1 << 16, 1 << 16, 1 << 16],
+            WideStep::Write(a, b) | WideStep::ReceiveError { code: a, step: b } => [a, b, 1 << 16, 1 << 16],
+            WideStep::Frame { identifier, length, data: [low, high] } => [identifier, length, low, high],
+            _ => [1 << 16; 4],
+        };
+        let [a, b, c, d] = numbers;
+        let answer = encode::answer(&request([20, record[0] as u32, a, b, c, d])).expect("valid");
+        assert_eq!(answer[..2], [0, record.len() as u8]);
+        assert_eq!(answer[2..2 + record.len()], record);
+    }
+}
+
+#[test]
+fn requests_that_cannot_be_answered() {
+    for (space, tag) in [(21, 1), (u32::MAX, 1), (20, 0), (20, 11), (20, 0x101), (20, u32::MAX)] {
+        assert!(encode::answer(&request([space, tag, 0, 0, 0, 0])).is_err());
+    }
+    let whole = request([20, 1, 0, 0, 0, 0]);
+    assert!((1..REQUEST_LENGTH).all(|cut| encode::answer(&whole[..cut]).is_err()));
+}
+
+#[test]
+fn replies_are_read_back() {
+    for (_, kind) in KINDS {
+        let script = generate(4, 500, kind);
+        let mut controller = Controller::at_reset();
+        let (mut place, mut answers, mut replies) = (0, Vec::new(), Vec::new());
+        while place < script.len() {
+            let mut reply = [0; REPLY_LENGTH];
+            let progress = step(&mut controller, &script, place, &mut reply);
+            answers.push(progress.answer);
+            replies.extend_from_slice(&reply);
+            place = progress.place;
+        }
+        for (number, answer) in answers.into_iter().enumerate() {
+            let place = number * REPLY_LENGTH;
+            assert_eq!(read_reply(&replies, place), Ok((answer, place + REPLY_LENGTH)));
+        }
+    }
+}
+
+#[test]
+fn every_code_and_lines_are_read() {
+    for value in 0..=255 {
+        let reply = [0x81, 6, 0, value, !value, 0x78, 0x56, 0x34, 0x12];
+        let answer = Answer { code: value, lines: !value, word: 0x1234_5678 };
+        assert_eq!(read_reply(&reply, 0), Ok((answer, REPLY_LENGTH)));
+    }
+}
+
+#[test]
+fn unreadable_replies_in_order() {
+    let cases: [(&[u8], u8); 15] = [
+        (&[], 6),
+        (&[0x81], 6),
+        (&[0x81, 6], 6),
+        (&[0x82, 7], 6),
+        (&[0x81, 6, 0], 6),
+        (&[0x81, 6, 0, 0, 0, 0, 0, 0], 6),
+        (&[0x80, 6, 0, 0, 0, 0, 0, 0, 0], 7),
+        (&[0x82, 6, 0], 7),
+        (&[0x01, 0, 0], 7),
+        (&[0x82, 7, 0, 0], 7),
+        (&[0x81, 5, 0, 0, 0, 0, 0, 0, 0], 8),
+        (&[0x81, 7, 0, 0, 0, 0, 0, 0, 0, 0], 8),
+        (&[0x81, 6, 1, 0, 0, 0, 0, 0, 0], 8),
+        (&[0x81, 0, 6, 0, 0, 0, 0, 0, 0], 8),
+        (&[0x81, 7, 0], 8),
+    ];
+    let whole = [0x81, 6, 0, 3, 9, 1, 0, 0, 0];
+    for (reply, code) in cases {
+        assert_eq!(read_reply(reply, 0).map_err(|unreadable| unreadable.code()), Err(code));
+        assert_eq!(read_reply(reply, reply.len() + 4).map_err(|unreadable| unreadable.code()), Err(6));
+        let behind = [&whole, reply].concat();
+        assert_eq!(read_reply(&behind, 0), Ok((Answer { code: 3, lines: 9, word: 1 }, 9)));
+        assert_eq!(read_reply(&behind, 9), read_reply(reply, 0));
+    }
+}
+
+/// The number of whole replies, and the code of what stands behind them.
+fn faults(replies: &[u8]) -> (usize, Option<u8>) {
+    let (mut place, mut whole) = (0, 0);
+    while place < replies.len() {
+        match read_reply(replies, place) {
+            Ok((_, next)) => place = next,
+            Err(unreadable) => return (whole, Some(unreadable.code())),
+        }
+        whole += 1;
+    }
+    (whole, None)
+}
+
+#[test]
+fn broken_replies_break_in_every_way() {
+    let met: std::collections::BTreeSet<_> = (0..600).map(|index| faults(&broken_replies(2, index))).collect();
+    for whole in 0..=2 {
+        for code in [6, 7, 8] {
+            assert!(met.contains(&(whole, Some(code))), "{code} behind {whole}");
+        }
+    }
+    assert!(met.contains(&(0, None)) && met.contains(&(256, None)));
+    for turn in 0..24 {
+        let cut = broken_replies(5, 8 * turn as u64);
+        assert_eq!((cut.len(), faults(&cut)), (turn / 8 * 9 + turn % 8 + 1, (turn / 8, Some(6))));
+    }
+}
+
+#[test]
+fn replies_in_lines() {
+    let line = |lines, code, word| replies::line(12, Answer { code, lines, word });
+    assert_eq!(replies::heading(), "     reply  code  lines              word\n");
+    assert_eq!(line(0, 0, 0x1_0002), "        12     0  -                  0x00010002\n");
+    assert_eq!(line(1, 4, 0), "        12     4  TX                 0x00000000\n");
+    assert_eq!(line(10, 255, 0), "        12   255  FIFO0 SCE          0x00000000\n");
+    assert_eq!(line(14, 0, 0), "        12     0  FIFO0 FIFO1 SCE    0x00000000\n");
+    assert_eq!(line(15, 0, 0), "        12     0  TX FIFO0 FIFO1 SCE  0x00000000\n");
+    assert_eq!(line(16, 11, u32::MAX), "        12    11  0x10               0xFFFFFFFF\n");
+    assert_eq!(line(255, 0, 0), "        12     0  0xFF               0x00000000\n");
+}
+
+/// In Sleep with line 3.
+fn woken() -> Controller {
+    let mut controller = Controller::at_reset();
+    write(&mut controller, IER, 0x0001_0000);
+    assert_eq!(controller.activity().lines, 8);
+    controller
+}
+
+#[test]
+fn lessons_at_every_place_with_every_space() {
+    for lesson in openings() {
+        let opens = lesson.len() >= 3 && (lesson[0], lesson[1], lesson[2]) == (1, 0, 0);
+        let places = (0..=lesson.len() + 2).chain([usize::MAX]);
+        for (place, space) in places.flat_map(|place| (0..=12).map(move |space| (place, space))) {
+            let (mut controller, mut reply) = (woken(), [0x55; 12]);
+            let progress = lesson::step(&mut controller, &lesson, place, &mut reply[..space]);
+            if opens {
+                let (mut by_script, mut expected) = (woken(), [0x55; 12]);
+                assert_eq!(progress, step(&mut by_script, &lesson, place, &mut expected[..space]));
+                assert_eq!((controller, reply), (by_script, expected));
+                continue;
+            }
+            let code = if space < REPLY_LENGTH { 9 } else { 11 };
+            assert_eq!(progress.answer, Answer { code, lines: 8, word: 0 });
+            assert_eq!((progress.place, progress.at_end), (place, false));
+            assert_eq!(controller, woken());
+            let refused = [0x81, 6, 0, 11, 8, 0, 0, 0, 0, 0x55, 0x55, 0x55];
+            assert_eq!(reply, if code == 11 { refused } else { [0x55; 12] });
+        }
+    }
+}
+
+#[test]
+fn lessons_open_with_the_record_that_the_writer_emits() {
+    let mut space = [0; 3];
+    assert_eq!(write_record(WideStep::Reset, &mut space), Written { code: 0, bytes: 3 });
+    assert_eq!(space, RESET_RECORD);
+    assert_eq!(RESET_RECORD, *b"\x01\x00\x00");
+    assert!([9, 11].iter().all(|&code| lesson::ends_replay(code)) && !lesson::ends_replay(5));
+}
+
+#[test]
+fn openings_are_of_every_kind() {
+    let lessons = openings();
+    let count = |opening: &[u8]| lessons.iter().filter(|lesson| lesson.starts_with(opening)).count();
+    assert_eq!((lessons.len(), count(&RESET_RECORD)), (110, 37));
+    for prefix in [&[][..], &[0x01], &[0x01, 0x00], &RESET_RECORD] {
+        assert!(lessons.iter().any(|lesson| lesson == prefix));
+    }
+    assert!((0x02..=0x0A).all(|tag| count(&[tag]) > 0));
 }
