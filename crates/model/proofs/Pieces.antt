@@ -258,7 +258,7 @@ module _ (z : Controller) (a b : List ℕ) (first space : ℕ) where
 
 -- ---- what a piece leaves
 
-body-small : (t : ℕ) → bodyLength t ≤ 13
+pub body-small : (t : ℕ) → bodyLength t ≤ 13
 unfolding bodyLength
 body-small t =
     pick-cases (λ (l : List ℕ). total l ≤ 13) (eqb t 2) _ _ (λ _. omega arith)

@@ -14,6 +14,16 @@ set-next [] (y ∷ s) x h = refl
 set-next (a ∷ r) [] x h = absurd (omega arith)
 set-next (a ∷ r) (y ∷ s) x h = ap (λ (l : List ℕ). a ∷ l) (set-next r s x (omega arith))
 
+-- so many stores from the front on
+pub two-sets : (s : List ℕ) (a b : ℕ) → 2 ≤ length s → set (set s 0 a) 1 b ≡ overwritten (a ∷ b ∷ []) s
+two-sets s a b h = rw (set-next [] s a (omega arith)) (set-next (a ∷ []) s b (omega arith))
+
+pub three-sets : (s : List ℕ) (a b c : ℕ) → 3 ≤ length s → set (set (set s 0 a) 1 b) 2 c ≡ overwritten (a ∷ b ∷ c ∷ []) s
+three-sets s a b c h = rw (two-sets s a b (omega arith)) (set-next (a ∷ b ∷ []) s c (omega arith))
+
+pub four-sets : (s : List ℕ) (a b c d : ℕ) → 4 ≤ length s → set (set (set (set s 0 a) 1 b) 2 c) 3 d ≡ overwritten (a ∷ b ∷ c ∷ d ∷ []) s
+four-sets s a b c d h = rw (three-sets s a b c (omega arith)) (set-next (a ∷ b ∷ c ∷ []) s d (omega arith))
+
 -- the part behind what is written is lent, and comes back with r written over it
 pub put-behind : (done r space now part : List ℕ) (w : ℕ) → w ≡ length done → w ≤ length space → now ≡ overwritten done space
     → part ≡ overwritten r (take (length now - w) (drop w now))

@@ -63,7 +63,7 @@ fit-large (ReceiveError k n) h = rw (at-most 255 k, at-most 255 n) (both-most (l
 
 -- ---- one record
 
-record-length : (e : steps.Step) → length (recordOf e) ≡ 3 + bodyLength (stepTag e)
+pub record-length : (e : steps.Step) → length (recordOf e) ≡ 3 + bodyLength (stepTag e)
 unfolding bytesOf
 record-length e = omega (arith, tags .lengths e)
 
@@ -72,7 +72,7 @@ swapped true = refl
 swapped false = refl
 
 -- code 0: there is space, and every number fits
-accepted : (e : steps.Step) (space : ℕ) → eqb (writeCode e space) 0 ≡ true → (length (recordOf e) ≤ space) × (fit (stepFields e) ≡ true)
+pub accepted : (e : steps.Step) (space : ℕ) → eqb (writeCode e space) 0 ≡ true → (length (recordOf e) ≤ space) × (fit (stepFields e) ≡ true)
 unfolding writeCode
 accepted e space h =
     let k = refused-if (ltb space (length (recordOf e))) 9 (pick (fit (stepFields e)) 0 5) refl h in
@@ -82,7 +82,7 @@ accepts : (e : steps.Step) (space : ℕ) → length (recordOf e) ≤ space → F
 unfolding writeCode
 accepts e space l h = rw (le-ltb space (length (recordOf e)) l, widths-fit (stepFields e) h)
 
-whole-record : (e : steps.Step) (space : ℕ) → writeCode e space ≡ 0 → recordWritten e space ≡ recordOf e
+pub whole-record : (e : steps.Step) (space : ℕ) → writeCode e space ≡ 0 → recordWritten e space ≡ recordOf e
 unfolding recordWritten
 whole-record e space h = rw h
 

@@ -7,8 +7,8 @@ ghost use Rattle.model.specs.Records as records;
 ghost use Rattle.model.specs.Script as scripts;
 ghost use Rattle.model.specs.Writer as writer;
 ghost use Rattle.model.specs.declared.Step.the-variants as step;
-use model::WideFrame;
 use super::OPENING;
+use model::WideFrame;
 
 // ---- numbers
 

@@ -1,9 +1,7 @@
 // Replies read back.
 ghost use mathlib.Core.Path.{_≡_};
-ghost use Prim.Native.Nat.{_+_, _*_, _≤_};
-ghost use lib.ListN.{length};
+ghost use Prim.Native.Nat.{_+_, _*_};
 ghost use Rattle.model.specs.Replies as replies;
-ghost use Rattle.model.specs.Script as scripts;
 use model::Answer;
 use model::ReplyReading;
 use records::decode::pair;
@@ -12,18 +10,6 @@ fn word(a: u8, b: u8, c: u8, d: u8) -> u32
     ensures { λ r. ⌜ r ≡ a + b * 256 + (c + d * 256) * 65536 ⌝ }
 {
     (pair(a, b) as u32) + (pair(c, d) as u32) * 65536
-}
-
-// What a reply's body says.
-fn said(b: &[u8]) -> Answer
-    requires { ⌜ 6 ≤ length (now b) ⌝ }
-    ensures { λ r. ⌜ r ≡ record { code = scripts.byteAt (now (b .entry)) 0; lines = scripts.byteAt (now (b .entry)) 1; word = scripts.number32 (now (b .entry)) 2 } ⌝ }
-{
-    Answer {
-        code: b[0],
-        lines: b[1],
-        word: word(b[2], b[3], b[4], b[5]),
-    }
 }
 
 // The reply that begins at a place.
@@ -50,6 +36,15 @@ pub fn reading(given: &[u8], place: usize) -> ReplyReading
         return ReplyReading::Broken(6);
     }
     let a = place + 3;
-    let b = place + 9;
-    ReplyReading::Said(said(&given[a..b]), b)
+    let b = place + 4;
+    let c = place + 5;
+    let d = c + 1;
+    let e = c + 2;
+    let f = e + 1;
+    let answer = Answer {
+        code: given[a],
+        lines: given[b],
+        word: word(given[c], given[d], given[e], given[f]),
+    };
+    ReplyReading::Said(answer, place + 9)
 }

@@ -1,30 +1,31 @@
+-- 9, then 5.
+use mathlib.Core.Path.{_∙_, sym}
+use native.Mathlib.Omega.{arith}
+use lib.ListN.{length}
+use borrow.Author.Tests.{lt-ltb, le-ltb}
+use Rattle.model.specs.Records.{recordOf}
+use Rattle.model.specs.Writer.{stepSaid, writeCode}
 use borrow.Author.Needs.{needs}
 use Rattle.writer.proofs.write_code.Statement.{statement}
 use Rattle.writer.proofs.write_code.Tie as tie
-use Rattle.writer.proofs.write_code.Reads as reads
-use Rattle.writer.proofs.write_code.Lts as lts
-use Rattle.writer.proofs.fits.Reads as fits-reads
-use Rattle.writer.proofs.record_length.Reads as record-length-reads
 
--- src/lib.rt:65:16
 record-length-requires : tie.Need-record-length-requires
 record-length-requires c κs = search needs
 
--- src/lib.rt:66:9
 returns : tie.Need-returns
-returns c = ?
+unfolding writeCode
+returns c = let a = c .before .before .args in rw (lt-ltb (a .space) (length (recordOf (stepSaid (a .e)))) (omega (arith, c .if1 .taken, c .before .record-length .ensures)))
 
--- src/lib.rt:68:8
 fits-requires : tie.Need-fits-requires
 fits-requires c κs = search needs
 
--- src/lib.rt:69:9
 returns-2 : tie.Need-returns-2
-returns-2 c = ?
+unfolding writeCode
+returns-2 c = let a = c .before .before .before .before .args in rw (le-ltb (a .space) (length (recordOf (stepSaid (a .e)))) (omega (arith, c .before .before .if1 .left, c .before .before .before .record-length .ensures)), sym (c .before .fits2 .ensures) ∙ c .if2 .taken)
 
--- src/lib.rt:62:1
 returns-3 : tie.Need-returns-3
-returns-3 c = ?
+unfolding writeCode
+returns-3 c = let a = c .before .before .before .before .args in rw (le-ltb (a .space) (length (recordOf (stepSaid (a .e)))) (omega (arith, c .before .before .if1 .left, c .before .before .before .record-length .ensures)), sym (c .before .fits2 .ensures) ∙ c .if2 .left)
 
 pub write-code-spec : {M : Type 1} → statement M
 write-code-spec =

@@ -1,5 +1,5 @@
 -- One store.
-use mathlib.Core.List.{List, [], _∷_}
+use mathlib.Core.List.{[]}
 use Rattle.model.specs.Records.{bytesOf}
 use Rattle.model.proofs.Spaces.{set-next}
 use borrow.Author.Needs.{needs}
@@ -17,7 +17,7 @@ same-length c = search needs
 
 returns : tie.Need-returns
 unfolding bytesOf
-returns c = let a = c .args in set-next [] (a .space .now) _ (c .pre)
+returns c = set-next [] (c .args .space .now) _ (c .pre)
 
 pub byte-spec : {M : Type 1} → statement M
 byte-spec = tie.close (tie.spec cast-space slice-write-space same-length returns)

@@ -1,12 +1,6 @@
 -- Two stores.
-use mathlib.Core.Path.{_≡_}
-use mathlib.Core.List.{List, [], _∷_}
-use Prim.Native.Nat.{ℕ, _/_, _%_}
-use native.Mathlib.Omega.{arith}
-use lib.ListN.{set}
 use Rattle.model.specs.Records.{bytesOf}
-use Rattle.model.specs.Script.{overwritten}
-use Rattle.model.proofs.Spaces.{set-next}
+use Rattle.model.proofs.Spaces.{two-sets}
 use borrow.Author.Needs.{needs}
 use Rattle.writer.proofs.put.half.Statement.{statement}
 use Rattle.writer.proofs.put.half.Tie as tie
@@ -28,11 +22,7 @@ same-length c = search needs
 
 returns : tie.Need-returns
 unfolding bytesOf
-returns c = 
-    let s : List ℕ = c .args .space .now in
-    let n : ℕ = c .args .n in
-    let one : set s 0 (n % 256) ≡ overwritten (n % 256 ∷ []) s = set-next [] s (n % 256) (omega (arith, c .pre)) in
-    rw one (set-next (n % 256 ∷ []) s (n / 256 % 256) (omega (arith, c .pre)))
+returns c = two-sets (c .args .space .now) _ _ (c .pre)
 
 pub half-spec : {M : Type 1} → statement M
 half-spec =

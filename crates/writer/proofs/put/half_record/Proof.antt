@@ -1,38 +1,37 @@
+-- The header, then the number behind it.
+use mathlib.Core.Path.{refl}
+use mathlib.Core.List.{_∷_}
+use native.Mathlib.Omega.{arith}
+use Rattle.model.specs.Records.{bytesOf}
+use Rattle.model.proofs.Spaces.{put-behind}
 use borrow.Author.Needs.{needs}
 use Rattle.writer.proofs.put.half_record.Statement.{statement}
 use Rattle.writer.proofs.put.half_record.Tie as tie
-use Rattle.writer.proofs.put.half_record.Reads as reads
-use Rattle.writer.proofs.put.half_record.Lts as lts
-use Rattle.writer.proofs.put.half.Reads as half-reads
-use Rattle.writer.proofs.put.header.Reads as header-reads
 
--- src/put.rt:69:5
 header-requires : tie.Need-header-requires
 header-requires c κs = search needs
 
--- src/put.rt:70:13
 sub-half : tie.Need-sub-half
 sub-half c = search needs
 
--- src/put.rt:70:13
 part-half-start : tie.Need-part-half-start
 part-half-start c = search needs
 
--- src/put.rt:70:13
 part-half-end : tie.Need-part-half-end
 part-half-end c = search needs
 
--- src/put.rt:70:5
 half-requires : tie.Need-half-requires
 half-requires c κs = search needs
 
--- src/put.rt:65:1
 same-length : tie.Need-same-length
 same-length c = search needs
 
--- src/put.rt:65:1
 returns : tie.Need-returns
-returns c = ?
+unfolding bytesOf
+returns c =
+    let a = c .before .before .before .before .before .before .before .before .before .args in
+    let h = c .before .before .before .before .before .before .header in
+    put-behind (a .tag ∷ bytesOf 2 2) (bytesOf 2 (a .n)) (a .space .now) (h .last .1 .1 .0) (c .before .before .half .last .1 .0) 3 refl (omega (arith, c .before .before .before .before .before .before .before .before .before .pre)) (h .ensures) (c .before .before .half .ensures)
 
 pub half-record-spec : {M : Type 1} → statement M
 half-record-spec =

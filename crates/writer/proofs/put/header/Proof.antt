@@ -1,12 +1,10 @@
 -- Three stores.
 use mathlib.Core.Path.{_≡_}
-use mathlib.Core.List.{List, [], _∷_}
 use Prim.Native.Nat.{ℕ, _/_, _%_}
 use native.Mathlib.Omega.{arith}
-use lib.ListN.{set, length-set}
+use lib.ListN.{length-set}
 use Rattle.model.specs.Records.{bytesOf}
-use Rattle.model.specs.Script.{overwritten}
-use Rattle.model.proofs.Spaces.{set-next}
+use Rattle.model.proofs.Spaces.{three-sets}
 use borrow.Author.Needs.{needs}
 use Rattle.writer.proofs.put.header.Statement.{statement}
 use Rattle.writer.proofs.put.header.Tie as tie
@@ -25,15 +23,11 @@ same-length c = search needs
 
 returns : tie.Need-returns
 unfolding bytesOf
-returns c = 
-    let s : List ℕ = c .args .space .now in
-    let t : ℕ = c .args .tag in
+returns c =
     let n : ℕ = c .args .n in
     let low : n % 256 ≡ n = omega (arith, c .good) in
     let high : n / 256 % 256 ≡ 0 = omega (arith, c .good) in
-    let one : set s 0 t ≡ overwritten (t ∷ []) s = set-next [] s t (omega (arith, c .pre)) in
-    let two : set (overwritten (t ∷ []) s) 1 n ≡ overwritten (t ∷ n ∷ []) s = set-next (t ∷ []) s n (omega (arith, c .pre)) in
-    rw (low, high, one, two) (set-next (t ∷ n ∷ []) s 0 (omega (arith, c .pre)))
+    rw (low, high) (three-sets (c .args .space .now) _ _ _ (c .pre))
 
 pub header-spec : {M : Type 1} → statement M
 header-spec =

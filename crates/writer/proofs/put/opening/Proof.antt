@@ -1,12 +1,8 @@
 -- Three stores of the constant.
-use mathlib.Core.Path.{_≡_}
-use mathlib.Core.List.{List, [], _∷_}
-use Prim.Native.Nat.{ℕ}
 use native.Mathlib.Omega.{arith}
-use lib.ListN.{set, length-set}
+use lib.ListN.{length-set}
 use Rattle.model.specs.Records.{bytesOf, fieldBytes}
-use Rattle.model.specs.Script.{overwritten}
-use Rattle.model.proofs.Spaces.{set-next}
+use Rattle.model.proofs.Spaces.{three-sets}
 use borrow.Author.Needs.{needs}
 use Rattle.writer.proofs.put.opening.Statement.{statement}
 use Rattle.writer.proofs.put.opening.Tie as tie
@@ -34,11 +30,7 @@ same-length c = search needs
 
 returns : tie.Need-returns
 unfolding bytesOf fieldBytes
-returns c = 
-    let s : List ℕ = c .args .space .now in
-    let one : set s 0 1 ≡ overwritten (1 ∷ []) s = set-next [] s 1 (omega (arith, c .pre)) in
-    let two : set (overwritten (1 ∷ []) s) 1 0 ≡ overwritten (1 ∷ 0 ∷ []) s = set-next (1 ∷ []) s 0 (omega (arith, c .pre)) in
-    rw (one, two) (set-next (1 ∷ 0 ∷ []) s 0 (omega (arith, c .pre)))
+returns c = three-sets (c .args .space .now) _ _ _ (c .pre)
 
 pub opening-spec : {M : Type 1} → statement M
 opening-spec =

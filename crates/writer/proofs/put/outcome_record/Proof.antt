@@ -1,38 +1,37 @@
+-- The header, then the number behind it.
+use mathlib.Core.Path.{refl}
+use mathlib.Core.List.{_∷_}
+use native.Mathlib.Omega.{arith}
+use Rattle.model.specs.Records.{bytesOf, fieldBytes}
+use Rattle.model.proofs.Spaces.{put-behind}
 use borrow.Author.Needs.{needs}
 use Rattle.writer.proofs.put.outcome_record.Statement.{statement}
 use Rattle.writer.proofs.put.outcome_record.Tie as tie
-use Rattle.writer.proofs.put.outcome_record.Reads as reads
-use Rattle.writer.proofs.put.outcome_record.Lts as lts
-use Rattle.writer.proofs.put.byte.Reads as byte-reads
-use Rattle.writer.proofs.put.header.Reads as header-reads
 
--- src/put.rt:86:5
 header-requires : tie.Need-header-requires
 header-requires c κs = search needs
 
--- src/put.rt:87:18
 sub-byte : tie.Need-sub-byte
 sub-byte c = search needs
 
--- src/put.rt:87:18
 part-byte-start : tie.Need-part-byte-start
 part-byte-start c = search needs
 
--- src/put.rt:87:18
 part-byte-end : tie.Need-part-byte-end
 part-byte-end c = search needs
 
--- src/put.rt:87:5
 byte-requires : tie.Need-byte-requires
 byte-requires c κs = search needs
 
--- src/put.rt:82:1
 same-length : tie.Need-same-length
 same-length c = search needs
 
--- src/put.rt:82:1
 returns : tie.Need-returns
-returns c = ?
+unfolding bytesOf fieldBytes
+returns c =
+    let a = c .before .before .before .before .before .before .before .before .before .args in
+    let h = c .before .before .before .before .before .before .header in
+    put-behind (8 ∷ bytesOf 2 1) (bytesOf 1 (a .result)) (a .space .now) (h .last .1 .1 .0) (c .before .before .byte .last .1 .0) 3 refl (omega (arith, c .before .before .before .before .before .before .before .before .before .pre)) (h .ensures) (c .before .before .byte .ensures)
 
 pub outcome-record-spec : {M : Type 1} → statement M
 outcome-record-spec =

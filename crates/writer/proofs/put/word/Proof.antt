@@ -1,12 +1,8 @@
 -- Four stores.
-use mathlib.Core.Path.{_≡_}
-use mathlib.Core.List.{List, [], _∷_}
-use Prim.Native.Nat.{ℕ, _/_, _%_}
 use native.Mathlib.Omega.{arith}
-use lib.ListN.{set, length-set}
+use lib.ListN.{length-set}
 use Rattle.model.specs.Records.{bytesOf}
-use Rattle.model.specs.Script.{overwritten}
-use Rattle.model.proofs.Spaces.{set-next}
+use Rattle.model.proofs.Spaces.{four-sets}
 use borrow.Author.Needs.{needs}
 use Rattle.writer.proofs.put.word.Statement.{statement}
 use Rattle.writer.proofs.put.word.Tie as tie
@@ -40,16 +36,7 @@ same-length c = search needs
 
 returns : tie.Need-returns
 unfolding bytesOf
-returns c = 
-    let s : List ℕ = c .args .space .now in
-    let n : ℕ = c .args .n in
-    let a : ℕ = n % 256 in
-    let b : ℕ = n / 256 % 256 in
-    let d : ℕ = n / 256 / 256 % 256 in
-    let one : set s 0 a ≡ overwritten (a ∷ []) s = set-next [] s a (omega (arith, c .pre)) in
-    let two : set (overwritten (a ∷ []) s) 1 b ≡ overwritten (a ∷ b ∷ []) s = set-next (a ∷ []) s b (omega (arith, c .pre)) in
-    let three : set (overwritten (a ∷ b ∷ []) s) 2 d ≡ overwritten (a ∷ b ∷ d ∷ []) s = set-next (a ∷ b ∷ []) s d (omega (arith, c .pre)) in
-    rw (one, two, three) (set-next (a ∷ b ∷ d ∷ []) s (n / 256 / 256 / 256 % 256) (omega (arith, c .pre)))
+returns c = four-sets (c .args .space .now) _ _ _ _ (c .pre)
 
 pub word-spec : {M : Type 1} → statement M
 word-spec =

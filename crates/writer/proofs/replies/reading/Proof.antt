@@ -1,86 +1,101 @@
+-- Each test in its order.
+use mathlib.Core.Path.{_∙_, ap, sym}
+use Prim.Native.Nat.{ℕ, _-_}
+use lib.Dec.{eqb}
+use native.Mathlib.Omega.{arith}
+use lib.ListN.{length}
+use borrow.Author.Tests.{eq-eqb, ne-eqb, lt-ltb, le-ltb}
+use Rattle.model.specs.Replies.{replyReading}
 use borrow.Author.Needs.{needs}
 use Rattle.writer.proofs.replies.reading.Statement.{statement}
 use Rattle.writer.proofs.replies.reading.Tie as tie
-use Rattle.writer.proofs.replies.reading.Reads as reads
-use Rattle.writer.proofs.replies.reading.Lts as lts
-use Rattle.records.proofs.decode.pair.Reads as pair-reads
-use Rattle.writer.proofs.replies.said.Reads as said-reads
 
--- src/replies.rt:35:9
 returns : tie.Need-returns
-returns c = ?
+unfolding replyReading
+returns c = let a = c .before .before .args in simp (lt-ltb (length (a .given .now) - a .place) 3 (omega (arith, c .if1 .taken)))
 
--- src/replies.rt:37:16
 sub-left : tie.Need-sub-left
 sub-left c = search needs
 
--- src/replies.rt:39:9
 returns-2 : tie.Need-returns-2
-returns-2 c = ?
+unfolding replyReading
+returns-2 c = let a = c .before .before .before .args in simp (lt-ltb (length (a .given .now) - a .place) 3 (omega (arith, c .if2 .taken)))
 
--- src/replies.rt:41:8
 shared-slice-read-if3 : tie.Need-shared-slice-read-if3
 shared-slice-read-if3 c = search needs
 
--- src/replies.rt:42:9
 returns-3 : tie.Need-returns-3
-returns-3 c = ?
+unfolding replyReading
+returns-3 c = let a = c .before .before .before .before .before .args in simp (le-ltb (length (a .given .now) - a .place) 3 (omega (arith, c .before .before .if2 .left)), ne-eqb _ _ (c .if3 .taken))
 
--- src/replies.rt:44:13
 add-i : tie.Need-add-i
 add-i c = search needs
 
--- src/replies.rt:45:13
 add-j : tie.Need-add-j
 add-j c = search needs
 
--- src/replies.rt:46:13
 shared-slice-read-pair : tie.Need-shared-slice-read-pair
 shared-slice-read-pair c = search needs
 
--- src/replies.rt:46:23
 shared-slice-read-pair-2 : tie.Need-shared-slice-read-pair-2
 shared-slice-read-pair-2 c = search needs
 
--- src/replies.rt:46:8
 pair-requires : tie.Need-pair-requires
 pair-requires c κs = search needs
 
--- src/replies.rt:47:9
 returns-4 : tie.Need-returns-4
-returns-4 c = ?
+unfolding replyReading
+returns-4 c = let a = c .before .before .before .before .before .before .before .before .before .args in simp (le-ltb (length (a .given .now) - a .place) 3 (omega (arith, c .before .before .before .before .before .before .if2 .left)), eq-eqb _ _ (c .before .before .before .before .if3 .left), ap (λ (n : ℕ). eqb n 6) (sym (c .before .pair .ensures)) ∙ ne-eqb _ _ (c .if4 .taken))
 
--- src/replies.rt:50:9
 returns-5 : tie.Need-returns-5
-returns-5 c = ?
+unfolding replyReading
+returns-5 c = let a = c .before .before .before .before .before .before .before .before .before .before .args in simp (le-ltb (length (a .given .now) - a .place) 3 (omega (arith, c .before .before .before .before .before .before .before .if2 .left)), eq-eqb _ _ (c .before .before .before .before .before .if3 .left), eq-eqb _ 6 (sym (c .before .before .pair .ensures) ∙ c .before .if4 .left), lt-ltb _ _ (c .if5 .taken))
 
--- src/replies.rt:52:13
 add-a : tie.Need-add-a
 add-a c = search needs
 
--- src/replies.rt:53:13
 add-b : tie.Need-add-b
 add-b c = search needs
 
--- src/replies.rt:54:29
-sub-said : tie.Need-sub-said
-sub-said c = search needs
+add-c : tie.Need-add-c
+add-c c = search needs
 
--- src/replies.rt:54:29
-part-said-start : tie.Need-part-said-start
-part-said-start c = search needs
+add-d : tie.Need-add-d
+add-d c = search needs
 
--- src/replies.rt:54:29
-part-said-end : tie.Need-part-said-end
-part-said-end c = search needs
+add-e : tie.Need-add-e
+add-e c = search needs
 
--- src/replies.rt:54:24
-said-requires : tie.Need-said-requires
-said-requires c κs = search needs
+add-f : tie.Need-add-f
+add-f c = search needs
 
--- src/replies.rt:30:1
+shared-slice-read-t16 : tie.Need-shared-slice-read-t16
+shared-slice-read-t16 c = search needs
+
+shared-slice-read-t20 : tie.Need-shared-slice-read-t20
+shared-slice-read-t20 c = search needs
+
+shared-slice-read-word : tie.Need-shared-slice-read-word
+shared-slice-read-word c = search needs
+
+shared-slice-read-word-2 : tie.Need-shared-slice-read-word-2
+shared-slice-read-word-2 c = search needs
+
+shared-slice-read-word-3 : tie.Need-shared-slice-read-word-3
+shared-slice-read-word-3 c = search needs
+
+shared-slice-read-word-4 : tie.Need-shared-slice-read-word-4
+shared-slice-read-word-4 c = search needs
+
+word-requires : tie.Need-word-requires
+word-requires c κs = search needs
+
+add-t32 : tie.Need-add-t32
+add-t32 c = search needs
+
 returns-6 : tie.Need-returns-6
-returns-6 c = ?
+unfolding replyReading
+returns-6 c = let a = c .before .before .before .before .before .before .before .before .before .before .before .before .before .before .before .before .before .args in simp (le-ltb (length (a .given .now) - a .place) 3 (omega (arith, c .before .before .before .before .before .before .before .before .before .before .before .before .before .before .if2 .left)), eq-eqb _ _ (c .before .before .before .before .before .before .before .before .before .before .before .before .if3 .left), eq-eqb _ 6 (sym (c .before .before .before .before .before .before .before .before .before .pair .ensures) ∙ c .before .before .before .before .before .before .before .before .if4 .left), le-ltb _ _ (c .before .before .before .before .before .before .before .if5 .left), c .word .ensures)
 
 pub reading-spec : {M : Type 1} → statement M
 reading-spec =
@@ -100,8 +115,16 @@ reading-spec =
     returns-5
     add-a
     add-b
-    sub-said
-    part-said-start
-    part-said-end
-    said-requires
+    add-c
+    add-d
+    add-e
+    add-f
+    shared-slice-read-t16
+    shared-slice-read-t20
+    shared-slice-read-word
+    shared-slice-read-word-2
+    shared-slice-read-word-3
+    shared-slice-read-word-4
+    word-requires
+    add-t32
     returns-6)
