@@ -1,6 +1,5 @@
 -- Refused by its code, or its record and the length of that.
 use mathlib.Core.Path.{_∙_, sym}
-use native.Mathlib.Omega.{arith}
 use borrow.Author.Tests.{eq-eqb, ne-eqb}
 use Rattle.model.specs.Writer.{stepSaid}
 use Rattle.model.proofs.Writing.{accepted}
