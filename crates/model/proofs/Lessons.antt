@@ -73,7 +73,7 @@ ends : (o e : Bool) (r q : Replayed) → r .ended ≡ e → q .ended ≡ false �
 ends true e r q h k = h
 ends false e r q h k = k
 
-refused-writes : (a : Bool) (z : Controller) (p : ℕ) → replyOf (turnedAway a z p) ≡ pick a [] (reply 11 (linesOf (z .core)) 0)
+pub refused-writes : (a : Bool) (z : Controller) (p : ℕ) → replyOf (turnedAway a z p) ≡ pick a [] (reply 11 (linesOf (z .core)) 0)
 unfolding replyOf
 refused-writes true z p = refl
 refused-writes false z p = refl

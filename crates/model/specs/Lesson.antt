@@ -35,9 +35,13 @@ opens s = sameBytes (take 3 s) opening
 
 -- ---- one record, and a whole lesson
 
--- another opening is refused at every place: by 9 where there is no space for the reply, else by 11. Behind a good one it is a script
+-- another opening is refused by 9 where there is no space for the reply, else by 11; the place and the controller stay
+abbrev pub refusedOpening : Controller → ℕ → ℕ → Replayed
+refusedOpening z p space = stayed z p (pick (ltb space 9) 9 11)
+
+-- at every place, before anything else; behind a good opening it is a script
 unfoldable pub lessonAt : Controller → List ℕ → ℕ → ℕ → Replayed
-lessonAt z s p space = pick (opens s) (recordAt z s p space) (stayed z p (pick (ltb space 9) 9 11))
+lessonAt z s p space = pick (opens s) (recordAt z s p space) (refusedOpening z p space)
 
 -- a replay that ends with its first record
 abbrev pub endsWith : Replayed → Progress

@@ -1,14 +1,17 @@
-// Replays a bench script from standard input, of any length, and writes the replies to standard output.
+// Replays a bench script from standard input, of any length, and writes the replies to standard output. With --lesson it must open
+// with the record of a hardware reset.
 use libc::STDOUT_FILENO;
 use pieces::Position;
 
 mod say;
 
-// After a turn: the position, the part of the space that is not replayed yet, and whether to read on.
+// After a turn: the position, the part of the space that is not replayed yet, whether the opening is good or not asked for, and
+// whether to read on.
 struct Progress {
     position: Position,
     from: usize,
     to: usize,
+    opened: bool,
     going: bool,
 }
 
@@ -30,8 +33,12 @@ fn is_written(records: u64, bytes: u64, replies: &[u8], n: usize) -> bool {
     ok
 }
 
-// Says why the record at a place of a piece can't be read.
+// Says why the opening is refused, or the record at a place of a piece can't be read.
 fn say_fault(records: u64, bytes: u64, code: u8, piece: &[u8], place: usize) {
+    if code == 11 {
+        say::opening(piece);
+        return;
+    }
     say::place(std::num::wrapping_add_u64(records, 1), bytes);
     say::fault(code, piece, place);
 }
@@ -39,7 +46,8 @@ fn say_fault(records: u64, bytes: u64, code: u8, piece: &[u8], place: usize) {
 // Replays a piece and writes the replies.
 fn replayed(p: Progress, piece: &[u8], replies: &mut [u8], last: bool) -> Progress {
     let k = p.position;
-    let t = pieces::replay_piece(k, piece, last, replies);
+    let l = lesson::replay_piece(k, p.opened, piece, last, replies);
+    let t = l.turn;
     let ok = is_written(k.records, k.bytes, replies, t.sent);
     let next = t.position;
     if ok & !t.going & !t.ended {
@@ -49,6 +57,7 @@ fn replayed(p: Progress, piece: &[u8], replies: &mut [u8], last: bool) -> Progre
         position: next,
         from: t.place,
         to: piece.len(),
+        opened: l.opened,
         going: t.going & ok,
     }
 }
@@ -64,6 +73,7 @@ fn next(p: Progress, space: &mut [u8], replies: &mut [u8]) -> Progress {
             position: k,
             from: p.from,
             to: p.to,
+            opened: p.opened,
             going: false,
         };
     }
@@ -71,7 +81,8 @@ fn next(p: Progress, space: &mut [u8], replies: &mut [u8]) -> Progress {
     replayed(p, &space[..n], replies, f.ended)
 }
 
-fn main() {
+// Replays all of the input.
+fn run(opened: bool) {
     let mut space = io::large_buffer();
     // Room for a reply to each record of three bytes and to one more.
     let mut replies = [0; 196614];
@@ -81,6 +92,7 @@ fn main() {
         position: k,
         from: 0,
         to: 0,
+        opened: opened,
         going: true,
     };
     // A proved loop has to end, and nothing says that the input does: no run uses these turns up.
@@ -89,4 +101,30 @@ fn main() {
         p = next(p, &mut space, &mut replies);
         turns -= 1;
     }
+}
+
+fn is_same(a: &[u8], b: &[u8]) -> bool {
+    if a.len() != b.len() {
+        return false;
+    }
+    for i in 0..a.len() {
+        if a[i] != b[i] {
+            return false;
+        }
+    }
+    true
+}
+
+fn main() {
+    if os::arg_count() < 2 {
+        run(true);
+        return;
+    }
+    let mut text = io::buffer();
+    let length = os::arg(1, &mut text);
+    if (os::arg_count() == 2) & is_same(&text[..length], b"--lesson") {
+        run(false);
+        return;
+    }
+    say::say(b"usage: replay [--lesson]\n");
 }

@@ -23,6 +23,25 @@ pub(crate) fn place(record: u64, byte: u64) {
     say(b": ");
 }
 
+// The bytes with which a lesson begins, at most three, instead of the opening.
+pub(crate) fn opening(lesson: &[u8]) {
+    say(b"replay: the lesson doesn't open with 01 00 00, the record of a reset: ");
+    if lesson.len() == 0 {
+        say(b"it is empty\n");
+        return;
+    }
+    if lesson.len() < 3 {
+        say(b"it ends after");
+    } else {
+        say(b"it begins with");
+    }
+    for i in 0..bits::least(lesson.len(), 3) {
+        say(b" ");
+        io::print_hex(STDERR_FILENO, lesson[i] as u64, 2);
+    }
+    say(b"\n");
+}
+
 fn say_short(rest: &[u8]) {
     let n = rest.len();
     if n < 3 {

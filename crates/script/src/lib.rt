@@ -3,7 +3,7 @@ ghost use mathlib.Core.Path.{_≡_};
 ghost use mathlib.Core.List.{[]};
 ghost use Prim.Native.Nat.{_≤_};
 ghost use mathlib.Core.Bool.{false, _||_};
-ghost use lib.Dec.{eqb};
+ghost use lib.Dec.{eqb, ltb};
 ghost use lib.ListN.{length};
 ghost use Rattle.model.specs.Base as base;
 ghost use Rattle.model.specs.Script as scripts;
@@ -84,6 +84,18 @@ fn write_reply(reply: &mut [u8], code: u8, lines: u8, word: u32)
     reply[6] = ((word >> 8) % 256) as u8;
     reply[7] = ((word >> 16) % 256) as u8;
     reply[8] = ((word >> 24) % 256) as u8;
+}
+
+// The reply of a refusal that comes before any record is read, where there is space for it. The code that is answered: 9 without.
+pub fn refuse(reply: &mut [u8], code: u8, lines: u8) -> u8
+    ensures { λ r. ⌜ r ≡ base.pick (ltb (length (now (reply .entry))) 9) 9 code ⌝ }
+    ensures { λ _. ⌜ now (reply .exit) ≡ scripts.overwritten (base.pick (ltb (length (now (reply .entry))) 9) [] (scripts.reply code lines 0)) (now (reply .entry)) ⌝ }
+{
+    if reply.len() < 9 {
+        return 9;
+    }
+    write_reply(reply, code, lines, 0);
+    code
 }
 
 // The end and code 9 have no reply.
