@@ -1,16 +1,12 @@
 -- The opening byte by byte.
-use mathlib.Core.Bool.{Bool, true, false, _&&_, _||_, and-assoc, and-true}
-use mathlib.Core.Path.{_≡_, refl, sym, ap, _∙_}
+use mathlib.Core.Bool.{_&&_, and-assoc, and-true}
+use mathlib.Core.Path.{_≡_}
 use mathlib.Core.List.{List, [], _∷_}
 use Prim.Native.Nat.{ℕ, _≤_}
 use native.Mathlib.Omega.{arith}
-use lib.Dec.{eqb, ltb}
+use lib.Dec.{eqb}
 use lib.ListN.{length, getD}
-use Rattle.model.specs.Base.{pick}
-use Rattle.model.specs.Lesson.{opens, refusedOpening}
-use Rattle.model.specs.Script.{reply, replyOf}
-use Rattle.model.specs.Step.{linesOf}
-use Rattle.model.specs.declared.Replayed.{Replayed}
+use Rattle.model.specs.Lesson.{opens}
 
 pub opens-bytes : (s : List ℕ) → 3 ≤ length s → (eqb (getD s 0 0) 1 && eqb (getD s 1 0) 0) && eqb (getD s 2 0) 0 ≡ opens s
 unfolding opens

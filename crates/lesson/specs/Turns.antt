@@ -21,7 +21,7 @@ use Rattle.lesson.specs.declared.LessonTurn.{LessonTurn}
 
 -- a piece s is replayed if the opening was good, is good, or can't be told yet: under three bytes, with more to come
 abbrev pub admits : Bool → List ℕ → Bool → Bool
-admits opened s last = opened || opens s || (not last && ltb (length s) 3)
+admits opened s last = (opened || opens s) || (not last && ltb (length s) 3)
 
 -- the refusal of an opening, with so much reply space
 abbrev pub refusal : Position → ℕ → Replayed

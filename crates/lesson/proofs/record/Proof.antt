@@ -1,44 +1,44 @@
+-- A script behind a good opening.
+use mathlib.Core.Path.{_∙_, sym}
+use lib.ListN.{length}
+use Rattle.model.specs.Lesson.{lessonAt}
+use Rattle.script.specs.OneWay.{whole-record}
 use borrow.Author.Needs.{needs}
 use Rattle.lesson.proofs.record.Statement.{statement}
 use Rattle.lesson.proofs.record.Tie as tie
-use Rattle.lesson.proofs.record.Reads as reads
-use Rattle.lesson.proofs.record.Lts as lts
-use Rattle.lesson.proofs.opens.Reads as opens-reads
-use Rattle.lesson.proofs.refused.Reads as refused-reads
-use Rattle.lesson.proofs.with_banks.Reads as with-banks-reads
-use Rattle.script.proofs.core_replayed.Reads as core-replayed-reads
 
--- src/lib.rt:73:8
 opens-requires : tie.Need-opens-requires
 opens-requires c κs = search needs
 
--- src/lib.rt:74:13
 core-replayed-requires : tie.Need-core-replayed-requires
 core-replayed-requires c κs = search needs
 
--- src/lib.rt:75:9
 with-banks-requires : tie.Need-with-banks-requires
 with-banks-requires c κs = search needs
 
--- src/lib.rt:75:9
 same-length : tie.Need-same-length
 same-length c = search needs
 
--- src/lib.rt:75:9
 returns : tie.Need-returns
-returns c = ?
+unfolding lessonAt
+returns c =
+    let a = c .before .before .before .before .before .before .before .before .before .args in
+    let v = c .before .before .before .core-replayed in
+    let o = sym (c .before .before .before .before .before .before .opens .ensures) ∙ c .before .before .before .before .before .if1 .taken in
+    (rw (o, c .with-banks .ensures, v .ensures .0) (whole-record (a .z) (a .lesson .now) (a .place) (length (a .reply .now))), rw (c .with-banks .ensures) (v .ensures .1))
 
--- src/lib.rt:77:5
 refused-requires : tie.Need-refused-requires
 refused-requires c κs = search needs
 
--- src/lib.rt:69:1
 same-length-2 : tie.Need-same-length-2
 same-length-2 c = search needs
 
--- src/lib.rt:69:1
 returns-2 : tie.Need-returns-2
-returns-2 c = ?
+unfolding lessonAt
+returns-2 c =
+    let v = c .before .before .refused in
+    let o = sym (c .before .before .before .before .before .opens .ensures) ∙ c .before .before .before .before .if1 .left in
+    (rw (o, v .ensures .0), v .ensures .1)
 
 pub record-spec : {M : Type 1} → statement M
 record-spec =

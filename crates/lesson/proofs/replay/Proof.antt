@@ -1,44 +1,41 @@
+-- A script behind a good opening.
+use mathlib.Core.Path.{_∙_, sym}
+use Rattle.model.specs.Lesson.{lessonAt, lessonReplay}
 use borrow.Author.Needs.{needs}
 use Rattle.lesson.proofs.replay.Statement.{statement}
 use Rattle.lesson.proofs.replay.Tie as tie
-use Rattle.lesson.proofs.replay.Reads as reads
-use Rattle.lesson.proofs.replay.Lts as lts
-use Rattle.bench.proofs.replay.Reads as replay-reads
-use Rattle.lesson.proofs.ends_with.Reads as ends-with-reads
-use Rattle.lesson.proofs.opens.Reads as opens-reads
-use Rattle.lesson.proofs.refused.Reads as refused-reads
 
--- src/lib.rt:103:8
 opens-requires : tie.Need-opens-requires
 opens-requires c κs = search needs
 
--- src/lib.rt:104:9
 replay-requires : tie.Need-replay-requires
 replay-requires c κs = search needs
 
--- src/lib.rt:104:9
 same-length : tie.Need-same-length
 same-length c = search needs
 
--- src/lib.rt:104:9
 returns : tie.Need-returns
-returns c = ?
+unfolding lessonReplay lessonAt
+returns c =
+    let v = c .before .before .replay in
+    let o = sym (c .before .before .before .before .before .opens .ensures) ∙ c .before .before .before .before .if1 .taken in
+    (rw o (v .ensures .0), rw o (v .ensures .1))
 
--- src/lib.rt:106:15
 refused-requires : tie.Need-refused-requires
 refused-requires c κs = search needs
 
--- src/lib.rt:106:5
 ends-with-requires : tie.Need-ends-with-requires
 ends-with-requires c κs = search needs
 
--- src/lib.rt:99:1
 same-length-2 : tie.Need-same-length-2
 same-length-2 c = search needs
 
--- src/lib.rt:99:1
 returns-2 : tie.Need-returns-2
-returns-2 c = ?
+unfolding lessonReplay lessonAt
+returns-2 c =
+    let v = c .before .before .before .refused in
+    let o = sym (c .before .before .before .before .before .before .opens .ensures) ∙ c .before .before .before .before .before .if1 .left in
+    (rw (o, c .ends-with .ensures, v .ensures .0), rw o (rw (v .ensures .0) at (v .ensures .1)))
 
 pub replay-spec : {M : Type 1} → statement M
 replay-spec =
