@@ -103,18 +103,6 @@ fn run(opened: bool) {
     }
 }
 
-fn is_same(a: &[u8], b: &[u8]) -> bool {
-    if a.len() != b.len() {
-        return false;
-    }
-    for i in 0..a.len() {
-        if a[i] != b[i] {
-            return false;
-        }
-    }
-    true
-}
-
 fn main() {
     if os::arg_count() < 2 {
         run(true);
@@ -122,7 +110,7 @@ fn main() {
     }
     let mut text = io::buffer();
     let length = os::arg(1, &mut text);
-    if (os::arg_count() == 2) & is_same(&text[..length], b"--lesson") {
+    if (os::arg_count() == 2) & check::same(&text[..length], b"--lesson") {
         run(false);
         return;
     }

@@ -9,9 +9,13 @@ fn say_number(n: usize) {
     io::print_decimal(STDERR_FILENO, n as u64);
 }
 
+fn say_hex(b: u8) {
+    io::print_hex(STDERR_FILENO, b as u64, 2);
+}
+
 fn say_byte(b: u8) {
     say(b"0x");
-    io::print_hex(STDERR_FILENO, b as u64, 2);
+    say_hex(b);
 }
 
 // The number (from 1) and the first byte (from 0) of a record.
@@ -21,6 +25,13 @@ pub(crate) fn place(record: u64, byte: u64) {
     say(b" at byte ");
     io::print_decimal(STDERR_FILENO, byte);
     say(b": ");
+}
+
+fn say_byte_of(lesson: &[u8], i: usize) {
+    if i < lesson.len() {
+        say(b" ");
+        say_hex(lesson[i]);
+    }
 }
 
 // The bytes with which a lesson begins, at most three, instead of the opening.
@@ -35,10 +46,9 @@ pub(crate) fn opening(lesson: &[u8]) {
     } else {
         say(b"it begins with");
     }
-    for i in 0..bits::least(lesson.len(), 3) {
-        say(b" ");
-        io::print_hex(STDERR_FILENO, lesson[i] as u64, 2);
-    }
+    say_byte_of(lesson, 0);
+    say_byte_of(lesson, 1);
+    say_byte_of(lesson, 2);
     say(b"\n");
 }
 
