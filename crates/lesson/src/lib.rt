@@ -98,10 +98,10 @@ pub fn replay(start: Controller, lesson: &[u8], replies: &mut [u8]) -> Replay
     ensures { λ r. ⌜ r ≡ lessons.lessonReplay start (now (lesson .entry)) (length (now (replies .entry))) .result ⌝ }
     ensures { λ _. ⌜ now (replies .exit) ≡ scripts.overwritten (lessons.lessonReplay start (now (lesson .entry)) (length (now (replies .entry))) .replies) (now (replies .entry)) ⌝ }
 {
-    if opens(lesson) {
-        return bench::replay(start, lesson, replies);
+    if !opens(lesson) {
+        return ends_with(refused(start, 0, replies));
     }
-    ends_with(refused(start, 0, replies))
+    bench::replay(start, lesson, replies)
 }
 
 // ---- a lesson in pieces
@@ -126,7 +126,8 @@ fn refused_turn(k: Position, code: u8) -> Turn
 }
 
 // Replays a piece of a lesson. Up to the opening nothing is left behind, so that the piece holds it from its first byte on; under
-// three bytes that are not the last say nothing yet.
+// three bytes that are not the last say nothing yet. The opening is looked at again behind the replay: a value that is kept
+// over it costs some instructions in every record.
 pub fn replay_piece(
     k: Position,
     opened: bool,
@@ -136,12 +137,11 @@ pub fn replay_piece(
 ) -> LessonTurn
     ensures { λ r. ⌜ turns.Taken k opened (now (piece .entry)) last (now (replies .entry)) r (now (replies .exit)) ⌝ }
 {
-    let good = opened | opens(piece);
-    if good | (!last & (piece.len() < 3)) {
+    if (opened | opens(piece)) | (!last & (piece.len() < 3)) {
         let t = pieces::replay_piece(k, piece, last, replies);
         return LessonTurn {
             turn: t,
-            opened: good,
+            opened: opened | opens(piece),
         };
     }
     let z = k.controller;

@@ -81,38 +81,54 @@ fn next(p: Progress, space: &mut [u8], replies: &mut [u8]) -> Progress {
     replayed(p, &space[..n], replies, f.ended)
 }
 
-// Replays all of the input.
-fn run(opened: bool) {
-    let mut space = io::large_buffer();
-    // Room for a reply to each record of three bytes and to one more.
-    let mut replies = [0; 196614];
+// What the arguments ask for.
+enum Asked {
+    Script,
+    Lesson,
+    Nothing,
+}
+
+// Other arguments than --lesson are told, and nothing is replayed.
+fn arguments() -> Asked {
+    if os::arg_count() < 2 {
+        return Asked::Script;
+    }
+    let mut text = io::buffer();
+    let length = os::arg(1, &mut text);
+    if (os::arg_count() == 2) & check::same(&text[..length], b"--lesson") {
+        return Asked::Lesson;
+    }
+    say::say(b"usage: replay [--lesson]\n");
+    Asked::Nothing
+}
+
+fn begun(how: Asked) -> Progress {
     let z = controller::reset();
     let k = pieces::begun(z);
     let mut p = Progress {
         position: k,
         from: 0,
         to: 0,
-        opened: opened,
+        opened: true,
         going: true,
     };
+    match how {
+        Asked::Script => {}
+        Asked::Lesson => p.opened = false,
+        Asked::Nothing => p.going = false,
+    }
+    p
+}
+
+fn main() {
+    let mut space = io::large_buffer();
+    // Room for a reply to each record of three bytes and to one more.
+    let mut replies = [0; 196614];
+    let mut p = begun(arguments());
     // A proved loop has to end, and nothing says that the input does: no run uses these turns up.
     let mut turns = u64::MAX;
     while turns > 0 && p.going {
         p = next(p, &mut space, &mut replies);
         turns -= 1;
     }
-}
-
-fn main() {
-    if os::arg_count() < 2 {
-        run(true);
-        return;
-    }
-    let mut text = io::buffer();
-    let length = os::arg(1, &mut text);
-    if (os::arg_count() == 2) & check::same(&text[..length], b"--lesson") {
-        run(false);
-        return;
-    }
-    say::say(b"usage: replay [--lesson]\n");
 }

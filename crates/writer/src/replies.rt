@@ -17,10 +17,7 @@ pub fn reading(given: &[u8], place: usize) -> ReplyReading
     ensures { λ r. ⌜ r ≡ replies.replyReading (now (given .entry)) place ⌝ }
 {
     let n = given.len();
-    if n <= place {
-        return ReplyReading::Broken(6);
-    }
-    let left = n - place;
+    let left = n - bits::least(place, n);
     if left < 3 {
         return ReplyReading::Broken(6);
     }

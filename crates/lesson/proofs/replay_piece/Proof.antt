@@ -10,15 +10,17 @@ opens-requires c κs = search needs
 replay-piece-requires : tie.Need-replay-piece-requires
 replay-piece-requires c κs = search needs
 
+opens-requires-2 : tie.Need-opens-requires-2
+opens-requires-2 c κs = search needs
+
 same-length : tie.Need-same-length
 same-length c = search needs
 
 returns : tie.Need-returns
 returns c =
-    let a = c .before .before .before .before .before .before .before .before .args in
-    let v = c .before .before .replay-piece in
-    let o = c .before .before .before .before .before .opens .ensures in
-    rw o (admitted (a .k) (a .opened) (a .piece .now) (a .last) (a .replies .now) _ (v .result) (rw o at (c .before .before .before .before .if1 .taken)) (v .ensures))
+    let a = c .before .before .before .before .before .before .before .before .before .args in
+    let v = c .before .before .before .replay-piece in
+    rw (c .opens2 .ensures) (admitted (a .k) (a .opened) (a .piece .now) (a .last) (a .replies .now) _ (v .result) (rw (c .before .before .before .before .before .before .opens .ensures) at (c .before .before .before .before .before .if1 .taken)) (v .ensures))
 
 refused-requires : tie.Need-refused-requires
 refused-requires c κs = search needs
@@ -41,6 +43,7 @@ replay-piece-spec =
     (tie.spec
     opens-requires
     replay-piece-requires
+    opens-requires-2
     same-length
     returns
     refused-requires

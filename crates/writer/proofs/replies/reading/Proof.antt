@@ -10,23 +10,22 @@ use borrow.Author.Needs.{needs}
 use Rattle.writer.proofs.replies.reading.Statement.{statement}
 use Rattle.writer.proofs.replies.reading.Tie as tie
 
-returns : tie.Need-returns
-unfolding replyReading
-returns c = let a = c .before .before .args in simp (lt-ltb (length (a .given .now) - a .place) 3 (omega (arith, c .if1 .taken)))
+least-requires : tie.Need-least-requires
+least-requires c κs = search needs
 
 sub-left : tie.Need-sub-left
 sub-left c = search needs
 
+returns : tie.Need-returns
+unfolding replyReading
+returns c = let a = c .before .before .before .args in let m = c .before .least .ensures .0 in simp (lt-ltb (length (a .given .now) - a .place) 3 (omega (arith, m, c .if1 .taken)))
+
+shared-slice-read-if2 : tie.Need-shared-slice-read-if2
+shared-slice-read-if2 c = search needs
+
 returns-2 : tie.Need-returns-2
 unfolding replyReading
-returns-2 c = let a = c .before .before .before .args in simp (lt-ltb (length (a .given .now) - a .place) 3 (omega (arith, c .if2 .taken)))
-
-shared-slice-read-if3 : tie.Need-shared-slice-read-if3
-shared-slice-read-if3 c = search needs
-
-returns-3 : tie.Need-returns-3
-unfolding replyReading
-returns-3 c = let a = c .before .before .before .before .before .args in simp (le-ltb (length (a .given .now) - a .place) 3 (omega (arith, c .before .before .if2 .left)), ne-eqb _ _ (c .if3 .taken))
+returns-2 c = let a = c .before .before .before .before .before .args in let m = c .before .before .before .least .ensures .0 in simp (le-ltb (length (a .given .now) - a .place) 3 (omega (arith, m, c .before .before .if1 .left)), ne-eqb _ _ (c .if2 .taken))
 
 add-i : tie.Need-add-i
 add-i c = search needs
@@ -43,13 +42,13 @@ shared-slice-read-pair-2 c = search needs
 pair-requires : tie.Need-pair-requires
 pair-requires c κs = search needs
 
+returns-3 : tie.Need-returns-3
+unfolding replyReading
+returns-3 c = let a = c .before .before .before .before .before .before .before .before .before .args in let m = c .before .before .before .before .before .before .before .least .ensures .0 in simp (le-ltb (length (a .given .now) - a .place) 3 (omega (arith, m, c .before .before .before .before .before .before .if1 .left)), eq-eqb _ _ (c .before .before .before .before .if2 .left), ap (λ (n : ℕ). eqb n 6) (sym (c .before .pair .ensures)) ∙ ne-eqb _ _ (c .if3 .taken))
+
 returns-4 : tie.Need-returns-4
 unfolding replyReading
-returns-4 c = let a = c .before .before .before .before .before .before .before .before .before .args in simp (le-ltb (length (a .given .now) - a .place) 3 (omega (arith, c .before .before .before .before .before .before .if2 .left)), eq-eqb _ _ (c .before .before .before .before .if3 .left), ap (λ (n : ℕ). eqb n 6) (sym (c .before .pair .ensures)) ∙ ne-eqb _ _ (c .if4 .taken))
-
-returns-5 : tie.Need-returns-5
-unfolding replyReading
-returns-5 c = let a = c .before .before .before .before .before .before .before .before .before .before .args in simp (le-ltb (length (a .given .now) - a .place) 3 (omega (arith, c .before .before .before .before .before .before .before .if2 .left)), eq-eqb _ _ (c .before .before .before .before .before .if3 .left), eq-eqb _ 6 (sym (c .before .before .pair .ensures) ∙ c .before .if4 .left), lt-ltb _ _ (c .if5 .taken))
+returns-4 c = let a = c .before .before .before .before .before .before .before .before .before .before .args in let m = c .before .before .before .before .before .before .before .before .least .ensures .0 in simp (le-ltb (length (a .given .now) - a .place) 3 (omega (arith, m, c .before .before .before .before .before .before .before .if1 .left)), eq-eqb _ _ (c .before .before .before .before .before .if2 .left), eq-eqb _ 6 (sym (c .before .before .pair .ensures) ∙ c .before .if3 .left), lt-ltb (length (a .given .now) - a .place) 9 (omega (arith, m, c .if4 .taken)))
 
 add-a : tie.Need-add-a
 add-a c = search needs
@@ -69,11 +68,11 @@ add-e c = search needs
 add-f : tie.Need-add-f
 add-f c = search needs
 
-shared-slice-read-t16 : tie.Need-shared-slice-read-t16
-shared-slice-read-t16 c = search needs
+shared-slice-read-t17 : tie.Need-shared-slice-read-t17
+shared-slice-read-t17 c = search needs
 
-shared-slice-read-t20 : tie.Need-shared-slice-read-t20
-shared-slice-read-t20 c = search needs
+shared-slice-read-t21 : tie.Need-shared-slice-read-t21
+shared-slice-read-t21 c = search needs
 
 shared-slice-read-word : tie.Need-shared-slice-read-word
 shared-slice-read-word c = search needs
@@ -90,41 +89,41 @@ shared-slice-read-word-4 c = search needs
 word-requires : tie.Need-word-requires
 word-requires c κs = search needs
 
-add-t32 : tie.Need-add-t32
-add-t32 c = search needs
+add-t14 : tie.Need-add-t14
+add-t14 c = search needs
 
-returns-6 : tie.Need-returns-6
+returns-5 : tie.Need-returns-5
 unfolding replyReading
-returns-6 c = let a = c .before .before .before .before .before .before .before .before .before .before .before .before .before .before .before .before .before .args in simp (le-ltb (length (a .given .now) - a .place) 3 (omega (arith, c .before .before .before .before .before .before .before .before .before .before .before .before .before .before .if2 .left)), eq-eqb _ _ (c .before .before .before .before .before .before .before .before .before .before .before .before .if3 .left), eq-eqb _ 6 (sym (c .before .before .before .before .before .before .before .before .before .pair .ensures) ∙ c .before .before .before .before .before .before .before .before .if4 .left), le-ltb _ _ (c .before .before .before .before .before .before .before .if5 .left), c .word .ensures)
+returns-5 c = let a = c .before .before .before .before .before .before .before .before .before .before .before .before .before .before .before .before .before .args in let m = c .before .before .before .before .before .before .before .before .before .before .before .before .before .before .before .least .ensures .0 in simp (le-ltb (length (a .given .now) - a .place) 3 (omega (arith, m, c .before .before .before .before .before .before .before .before .before .before .before .before .before .before .if1 .left)), eq-eqb _ _ (c .before .before .before .before .before .before .before .before .before .before .before .before .if2 .left), eq-eqb _ 6 (sym (c .before .before .before .before .before .before .before .before .before .pair .ensures) ∙ c .before .before .before .before .before .before .before .before .if3 .left), le-ltb (length (a .given .now) - a .place) 9 (omega (arith, m, c .before .before .before .before .before .before .before .if4 .left)), c .word .ensures)
 
 pub reading-spec : {M : Type 1} → statement M
 reading-spec =
     tie.close
     (tie.spec
-    returns
+    least-requires
     sub-left
+    returns
+    shared-slice-read-if2
     returns-2
-    shared-slice-read-if3
-    returns-3
     add-i
     add-j
     shared-slice-read-pair
     shared-slice-read-pair-2
     pair-requires
+    returns-3
     returns-4
-    returns-5
     add-a
     add-b
     add-c
     add-d
     add-e
     add-f
-    shared-slice-read-t16
-    shared-slice-read-t20
+    shared-slice-read-t17
+    shared-slice-read-t21
     shared-slice-read-word
     shared-slice-read-word-2
     shared-slice-read-word-3
     shared-slice-read-word-4
     word-requires
-    add-t32
-    returns-6)
+    add-t14
+    returns-5)

@@ -2,20 +2,20 @@
 use borrow.Author.Needs.{needs}
 use mathlib.Core.Path.{_≡_}
 use lib.ListN.{length}
-use Rattle.replay.proofs.run.Statement.{statement}
-use Rattle.replay.proofs.run.Tie as tie
+use Rattle.replay.proofs.main.Statement.{statement}
+use Rattle.replay.proofs.main.Tie as tie
 
 abbrev Inv-loop : tie.InvT-loop
-Inv-loop opened space₀ replies₀ p₀ turns₀ space replies p turns = (65536 ≡ length space) × (196614 ≡ length replies)
+Inv-loop space₀ replies₀ p₀ turns₀ space replies p turns = (65536 ≡ length space) × (196614 ≡ length replies)
 
 abbrev μ-loop : tie.MeasureT-loop
-μ-loop opened space₀ replies₀ p₀ turns₀ space replies p turns = turns
+μ-loop space₀ replies₀ p₀ turns₀ space replies p turns = turns
 
 large-buffer-requires : tie.Need-large-buffer-requires Inv-loop μ-loop
 large-buffer-requires c κs = search needs
 
-reset-requires : tie.Need-reset-requires Inv-loop μ-loop
-reset-requires c κs = search needs
+arguments-requires : tie.Need-arguments-requires Inv-loop μ-loop
+arguments-requires c κs = search needs
 
 begun-requires : tie.Need-begun-requires Inv-loop μ-loop
 begun-requires c κs = search needs
@@ -47,14 +47,14 @@ returns c = search needs
 returns-2 : tie.Need-returns-2 Inv-loop μ-loop
 returns-2 c = search needs
 
-pub run-spec : {M : Type 1} → statement M
-run-spec =
+pub main-spec : {M : Type 1} → statement M
+main-spec =
     tie.close
     (tie.spec
     Inv-loop
     μ-loop
     large-buffer-requires
-    reset-requires
+    arguments-requires
     begun-requires
     loop-holds
     slice-aggregate-next
