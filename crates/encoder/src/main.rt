@@ -32,17 +32,13 @@ struct Request {
     d: u32,
 }
 
-fn word(a: u8, b: u8, c: u8, d: u8) -> u32 {
-    (a as u32) + (b as u32) * 256 + (c as u32) * 65536 + (d as u32) * 16777216
-}
-
 fn number(bytes: &[u8], i: usize) -> u32
     requires { ⌜ i + 4 ≤ length (now bytes) ⌝ }
 {
     let j = i + 1;
     let k = i + 2;
     let l = i + 3;
-    word(bytes[i], bytes[j], bytes[k], bytes[l])
+    records::decode::word(bytes[i], bytes[j], bytes[k], bytes[l])
 }
 
 fn request_in(bytes: &[u8]) -> Request

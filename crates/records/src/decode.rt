@@ -17,6 +17,12 @@ pub fn pair(low: u8, high: u8) -> u16
     (low as u16) + (high as u16) * 256
 }
 
+pub fn word(a: u8, b: u8, c: u8, d: u8) -> u32
+    ensures { λ r. ⌜ r ≡ a + b * 256 + (c + d * 256) * 65536 ⌝ }
+{
+    (pair(a, b) as u32) + (pair(c, d) as u32) * 65536
+}
+
 fn number16(b: &[u8], i: usize) -> u16
     requires { ⌜ i + 2 ≤ length (now b) ⌝ }
     ensures { λ r. ⌜ r ≡ scripts.number16 (now (b .entry)) i ⌝ }
