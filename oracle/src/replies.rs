@@ -82,13 +82,13 @@ fn read_body(body: &[u8]) -> Result<Answer, Unreadable> {
 
 /// The line above a list of replies.
 pub fn heading() -> String {
-    format!("{:>10}  {:>4}  {:<17}  {}\n", "reply", "code", "lines", "word")
+    format!("{:>10}  {:>4}  {:<18}  {}\n", "reply", "code", "lines", "word")
 }
 
 /// `number` is from 1.
 pub fn line(number: u64, answer: Answer) -> String {
     let lines = lines_in_words(answer.lines);
-    format!("{number:>10}  {:>4}  {lines:<17}  0x{:08X}\n", answer.code, answer.word)
+    format!("{number:>10}  {:>4}  {lines:<18}  0x{:08X}\n", answer.code, answer.word)
 }
 
 /// The names of the lines that are set; a byte that no controller gives as it is.

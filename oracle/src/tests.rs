@@ -918,14 +918,14 @@ fn broken_replies_break_in_every_way() {
 #[test]
 fn replies_in_lines() {
     let line = |lines, code, word| replies::line(12, Answer { code, lines, word });
-    assert_eq!(replies::heading(), "     reply  code  lines              word\n");
-    assert_eq!(line(0, 0, 0x1_0002), "        12     0  -                  0x00010002\n");
-    assert_eq!(line(1, 4, 0), "        12     4  TX                 0x00000000\n");
-    assert_eq!(line(10, 255, 0), "        12   255  FIFO0 SCE          0x00000000\n");
-    assert_eq!(line(14, 0, 0), "        12     0  FIFO0 FIFO1 SCE    0x00000000\n");
+    assert_eq!(replies::heading(), "     reply  code  lines               word\n");
+    assert_eq!(line(0, 0, 0x1_0002), "        12     0  -                   0x00010002\n");
+    assert_eq!(line(1, 4, 0), "        12     4  TX                  0x00000000\n");
+    assert_eq!(line(10, 255, 0), "        12   255  FIFO0 SCE           0x00000000\n");
+    assert_eq!(line(14, 0, 0), "        12     0  FIFO0 FIFO1 SCE     0x00000000\n");
     assert_eq!(line(15, 0, 0), "        12     0  TX FIFO0 FIFO1 SCE  0x00000000\n");
-    assert_eq!(line(16, 11, u32::MAX), "        12    11  0x10               0xFFFFFFFF\n");
-    assert_eq!(line(255, 0, 0), "        12     0  0xFF               0x00000000\n");
+    assert_eq!(line(16, 11, u32::MAX), "        12    11  0x10                0xFFFFFFFF\n");
+    assert_eq!(line(255, 0, 0), "        12     0  0xFF                0x00000000\n");
 }
 
 /// In Sleep with line 3.

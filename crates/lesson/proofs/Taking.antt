@@ -6,7 +6,7 @@ use Prim.Native.Nat.{ℕ}
 use native.Mathlib.Omega.{arith}
 use lib.Dec.{eqb}
 use lib.ListN.{length, drop}
-use lib.Seq.{take-append-le}
+use lib.Seq.{take-append-le, take-all}
 use Rattle.model.specs.Base.{pick}
 use Rattle.model.specs.Lesson.{opens}
 use Rattle.model.specs.Script.{replyOf, overwritten}
@@ -15,7 +15,7 @@ use Rattle.bench.proofs.Rounds.{reply-bytes}
 use Rattle.pieces.specs.Turns as scripts
 use Rattle.pieces.specs.declared.Position.{Position}
 use Rattle.pieces.specs.declared.Turn as pieces
-use Rattle.lesson.specs.Turns.{admits, refusal, refusedTurn, lessonPiece, sentBy, Taken}
+use Rattle.lesson.specs.Turns.{admits, refusal, refusedTurn, lessonPiece, sentBy, Taken, RefusedPiece}
 
 neither : (a b : Bool) → (a || b) ≡ false → a ≡ false
 neither true b h = h
@@ -26,14 +26,30 @@ module _ (k : Position) (o : Bool) (s : List ℕ) (last : Bool) (before after : 
   unfolding lessonPiece sentBy scripts.sentBy
   admitted t h p = record { result = rw (h, p .result); sent = rw h (p .sent); space = rw h (p .space) }
 
+  -- its reply has so many bytes
+  abbrev answer : List ℕ
+  answer = replyOf (refusal k (length before))
+
+  bytes : pick (eqb (refusal k (length before) .code) 9) 0 9 ≡ length answer
+  bytes = sym (reply-bytes (refusal k (length before)))
+
   pub refused : (r : Replayed) → admits o s last ≡ false → r ≡ refusal k (length before) → after ≡ overwritten (replyOf r) before
       → Taken k o s last before (record { turn = refusedTurn k (r .code); opened = false }) after
   unfolding lessonPiece sentBy
-  refused r h e f =
-      let a : List ℕ = replyOf (refusal k (length before)) in
-      let n : pick (eqb (refusal k (length before) .code) 9) 0 9 ≡ length a = sym (reply-bytes (refusal k (length before))) in
-      record {
-        result = rw (h, neither (o || opens s) _ h, e);
-        sent = rw (h, f, e, n) (take-append-le (length a) a (drop (length a) before) (omega arith));
-        space = rw (h, f, e);
-      }
+  refused r h e f = record {
+    result = rw (h, neither (o || opens s) _ h, e);
+    sent = rw (h, f, e, bytes) (take-append-le (length answer) answer (drop (length answer) before) (omega arith));
+    space = rw (h, f, e);
+  }
+
+pub refused-piece : (k : Position) (o : Bool) (s : List ℕ) (last : Bool) (space : ℕ) → RefusedPiece k o s last space
+unfolding lessonPiece sentBy
+refused-piece k o s last space = record {
+  position = λ h. rw h;
+  place = λ h. rw h;
+  code = λ h. rw h;
+  going = λ h. rw h;
+  ended = λ h. rw h;
+  opened = λ h. neither (o || opens s) _ h;
+  sent = λ h. rw (h, sym (reply-bytes (refusal k space))) (take-all (length (replyOf (refusal k space))) (replyOf (refusal k space)) (omega arith));
+}

@@ -50,6 +50,16 @@ pub record Taken (k : Position) (opened : Bool) (s : List ℕ) (last : Bool) (be
   pub sent : take (r .turn .sent) after ≡ sentBy k opened s last (length before)
   pub space : after ≡ overwritten (repliesBy k opened s last (length before)) before
 
+-- an opening that is refused: the place and the position stay, the replay ends, and its reply is sent
+pub record RefusedPiece (k : Position) (o : Bool) (s : List ℕ) (last : Bool) (space : ℕ) : Type 0 where
+  pub position : admits o s last ≡ false → lessonPiece k o s last space .turn .position ≡ k
+  pub place : admits o s last ≡ false → lessonPiece k o s last space .turn .place ≡ 0
+  pub code : admits o s last ≡ false → lessonPiece k o s last space .turn .code ≡ pick (ltb space 9) 9 11
+  pub going : admits o s last ≡ false → lessonPiece k o s last space .turn .going ≡ false
+  pub ended : admits o s last ≡ false → lessonPiece k o s last space .turn .ended ≡ false
+  pub opened : admits o s last ≡ false → lessonPiece k o s last space .opened ≡ false
+  pub sent : admits o s last ≡ false → sentBy k o s last space ≡ replyOf (refusal k space)
+
 -- ---- turn after turn
 
 -- behind a turn t over piece s: it goes on from its position with what it left, or stops

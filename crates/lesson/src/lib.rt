@@ -30,7 +30,7 @@ fn refused(z: Controller, place: usize, reply: &mut [u8]) -> Replayed
 {
     let c = z.core;
     let lines = reads::lines_of(c);
-    let code = script::refuse(reply, 11, lines);
+    let code = script::refuse_opening(reply, lines);
     Replayed {
         controller: z,
         place: place,
@@ -73,6 +73,13 @@ pub fn record(z: Controller, lesson: &[u8], place: usize, reply: &mut [u8]) -> R
         return with_banks(z, a);
     }
     refused(z, place, reply)
+}
+
+// Where record after record ends: as in a script, and at a refused opening.
+pub fn stops(ended: bool, code: u8) -> bool
+    ensures { λ r. ⌜ r ≡ lessons.lessonStops ended code ⌝ }
+{
+    script::stops(ended, code) | (code == 11)
 }
 
 // ---- a whole lesson

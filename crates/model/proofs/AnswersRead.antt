@@ -18,13 +18,13 @@ use Rattle.model.specs.Reachable.{InRange, StepsRange}
 use Rattle.model.specs.Script.{byteAt, number16, number32, part, reply, recordAt, replyOf, replay, repliesTo}
 use Rattle.model.specs.Scripts.{headerShort, answeredSteps, lastAnswer, placeAfter, RecordCodes}
 use Rattle.model.specs.Records.{Bytes}
-use Rattle.model.specs.Replies.{replyReading, replyNumbers, answersBy, answersFrom, answersIn, replyTag, replyLength, replyShort, ReplyCodes, RepliesApart, replyOfAnswer, ReplyReads, ReplyStands, answersTo, stopAnswer, RepliesRead}
+use Rattle.model.specs.Replies.{replyReading, replyNumbers, answersBy, answersFrom, answersIn, isReplyTag, isReplyLength, replyShort, ReplyCodes, RepliesApart, replyOfAnswer, ReplyReads, ReplyStands, answersTo, stopAnswer, RepliesRead}
 use Rattle.model.specs.declared.Answer.{Answer}
 use Rattle.model.specs.declared.Controller.{Controller}
 use Rattle.model.specs.declared.Replay as declared
 use Rattle.model.specs.declared.Replayed.{Replayed}
 use Rattle.model.specs.declared.ReplyReading.{ReplyReading}
-use Rattle.model.specs.declared.ReplyReading.the-variants.{Broken, Said}
+use Rattle.model.specs.declared.ReplyReading.the-variants.{Malformed, Said}
 use Rattle.model.specs.declared.Step as steps
 use Rattle.model.proofs.Parts.{left-shift, byte-shift, number-shift}
 use Rattle.model.proofs.Readings.{record-codes}
@@ -48,10 +48,10 @@ reply-codes s p = record {
 }
 
 abbrev numbered : List ℕ → ReplyReading
-numbered l = pick (eqb (byteAt l 0) 1) (Broken (byteAt l 1)) (Said (record { code = byteAt l 2; lines = byteAt l 3; word = byteAt l 4 }) (byteAt l 1))
+numbered l = pick (eqb (byteAt l 0) 1) (Malformed (byteAt l 1)) (Said (record { code = byteAt l 2; lines = byteAt l 3; word = byteAt l 4 }) (byteAt l 1))
 
 numbered-back : (x : ReplyReading) → numbered (replyNumbers x) ≡ x
-numbered-back (Broken k) = refl
+numbered-back (Malformed k) = refl
 numbered-back (Said a q) = refl
 
 pub replies-apart : RepliesApart
@@ -64,10 +64,10 @@ answerAt s p = record { code = byteAt s (p + 3); lines = byteAt s (p + 4); word 
 
 -- what is read, from the tests in their order
 abbrev read : (h t n b : Bool) → Answer → ℕ → ReplyReading
-read h t n b a q = pick h (Broken 6) (pick (not t) (Broken 7) (pick (not n) (Broken 8) (pick b (Broken 6) (Said a q))))
+read h t n b a q = pick h (Malformed 6) (pick (not t) (Malformed 7) (pick (not n) (Malformed 8) (pick b (Malformed 6) (Said a q))))
 
 abbrev shifted : ℕ → ReplyReading → ReplyReading
-shifted p (Broken k) = Broken k
+shifted p (Malformed k) = Malformed k
 shifted p (Said a q) = Said a (p + q)
 
 read-shifted : (h t n b : Bool) (a : Answer) (p q : ℕ) → read h t n b a (p + q) ≡ shifted p (read h t n b a q)
@@ -85,7 +85,7 @@ module _ (s : List ℕ) (p q : ℕ) where
   unfolding replyReading
   reply-shift =
       rw (left-shift s p q, byte-shift s p q, number-shift s p q, answer-shift, add-assoc p q 9)
-      (read-shifted (headerShort (drop p s) q) (replyTag (drop p s) q) (replyLength (drop p s) q) (replyShort (drop p s) q) (answerAt (drop p s) q) p (q + 9))
+      (read-shifted (headerShort (drop p s) q) (isReplyTag (drop p s) q) (isReplyLength (drop p s) q) (replyShort (drop p s) q) (answerAt (drop p s) q) p (q + 9))
 
 -- ---- a reply is read
 
@@ -144,18 +144,18 @@ elements-part (suc n) s p l = rw (drop-cons s p 0 (omega arith)) (ap (λ (t : Li
 
 module _ (s : List ℕ) (p : ℕ) where
   abbrev Passed : Answer → ℕ → Type 0
-  Passed a q = Said-as (replyTag s p) (replyLength s p) (replyShort s p) (answerAt s p) (p + 9) a q
+  Passed a q = Said-as (isReplyTag s p) (isReplyLength s p) (replyShort s p) (answerAt s p) (p + 9) a q
 
   passed : (a : Answer) (q : ℕ) → replyReading s p ≡ Said a q → Passed a q
   unfolding replyReading
-  passed a q k = only-said (headerShort s p) (replyTag s p) (replyLength s p) (replyShort s p) (answerAt s p) (p + 9) a q k
+  passed a q k = only-said (headerShort s p) (isReplyTag s p) (isReplyLength s p) (replyShort s p) (answerAt s p) (p + 9) a q k
 
   place : (a : Answer) (q : ℕ) → replyReading s p ≡ Said a q → (q ≡ p + 9) × (q ≤ length s)
   place a q k =
       let f : Passed a q = passed a q k in
       (sym (f .place), omega (arith, f .place, ltb-false (length s - p) 9 (f .body)))
 
-  stands : Bytes s → replyTag s p ≡ true → replyLength s p ≡ true → p + 9 ≤ length s → part s p (p + 9) ≡ replyOfAnswer (answerAt s p)
+  stands : Bytes s → isReplyTag s p ≡ true → isReplyLength s p ≡ true → p + 9 ≤ length s → part s p (p + 9) ≡ replyOfAnswer (answerAt s p)
   unfolding elements
   stands h t n l =
       let e : p + 9 - p ≡ 9 = omega arith in
@@ -193,9 +193,9 @@ unfolding repliesOf reply
 more-bytes [] = omega arith
 more-bytes (a ∷ l) = omega (arith, more-bytes l)
 
-nothing-there : (front : List ℕ) → replyReading (front ++ []) (length front) ≡ Broken 6
+nothing-there : (front : List ℕ) → replyReading (front ++ []) (length front) ≡ Malformed 6
 nothing-there front =
-    replies-apart .readings (replyReading (front ++ []) (length front)) (Broken 6)
+    replies-apart .readings (replyReading (front ++ []) (length front)) (Malformed 6)
     (reply-codes (front ++ []) (length front) .empty (omega (arith, length-append front [])))
 
 -- they read back, from behind any bytes on

@@ -68,7 +68,7 @@ fit-take zero l h = tt
 fit-take (suc n) [] h = tt
 fit-take (suc n) (s ∷ l) h = (h .0, fit-take n l (h .1))
 
-script-fit : (s : List ℕ) → Bytes s → AllFit (stepsOf s)
+pub script-fit : (s : List ℕ) → Bytes s → AllFit (stepsOf s)
 unfolding stepsOf
 script-fit s h = steps-fit (length s) s 0 h
 

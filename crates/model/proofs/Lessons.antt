@@ -11,10 +11,10 @@ use Rattle.model.specs.Base.{pick}
 use Rattle.model.specs.Registers.{reset}
 use Rattle.model.specs.Step.{linesOf}
 use Rattle.model.specs.Reachable.{InRange}
-use Rattle.model.specs.Script.{stayed, recordAt, reply, replyOf, overwritten, Progress, replay}
+use Rattle.model.specs.Script.{stayed, recordAt, reply, replyOf, overwritten, stops, Progress, replay}
 use Rattle.model.specs.Scripts.{isEnd, noSpace, Overwrites, RecordCodes, FoldsSteps}
-use Rattle.model.specs.Records.{Bytes, bytesOf, fieldBytes}
-use Rattle.model.specs.Lesson.{opening, sameBytes, opens, lessonAt, endsWith, lessonReplay, Opening, LessonCodes, LessonReplays}
+use Rattle.model.specs.Records.{Bytes, opening, bytesOf, fieldBytes}
+use Rattle.model.specs.Lesson.{sameBytes, opens, lessonAt, endsWith, lessonStops, lessonReplay, Opening, LessonCodes, LessonReplays}
 use Rattle.model.specs.declared.Controller.{Controller}
 use Rattle.model.specs.declared.Replayed.{Replayed}
 use Rattle.model.proofs.Choices.{and-l, and-r, pick-cases}
@@ -100,6 +100,13 @@ lesson-codes z s p space = record {
 
 -- ---- a whole lesson
 
+script-stops : (e : Bool) (k : ℕ) → stops e k ≡ true → lessonStops e k ≡ true
+script-stops e k h = rw h
+
+refused-stops : (a : Bool) → lessonStops false (pick a 9 11) ≡ true
+refused-stops true = refl
+refused-stops false = refl
+
 pub lesson-replays : (z : Controller) (s : List ℕ) (space : ℕ) → LessonReplays z s space
 unfolding lessonReplay lessonAt
 lesson-replays z s space = record {
@@ -109,6 +116,7 @@ lesson-replays z s space = record {
   refused = λ h. rw h;
   nothing = λ h. rw h;
   replies = λ h. rw h;
+  stopped = pick-cases (λ (x : Progress). lessonStops (x .result .ended) (x .result .code) ≡ true) (opens s) (replay z s space) (endsWith (lessonAt z s 0 space)) (λ _. script-stops (replay z s space .result .ended) (replay z s space .result .code) (replays z s space .stop .stopped)) (λ h. rw h (refused-stops (noSpace space)));
   written = pick-cases (λ (x : Progress). x .result .written ≡ length (x .replies)) (opens s) (replay z s space) (endsWith (lessonAt z s 0 space)) (λ _. f .written) (λ _. refl);
   fits = pick-cases (λ (x : Progress). length (x .replies) ≤ space) (opens s) (replay z s space) (endsWith (lessonAt z s 0 space)) (λ _. omega (arith, f .written, f .fits)) (λ h. rw h (refused-fits z 0 space));
 }

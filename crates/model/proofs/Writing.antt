@@ -11,17 +11,20 @@ use lib.Seq.{take-append-seam, take-all, take-add, drop-drop}
 use borrow.Author.Tests.{ltb-true, ltb-false, lt-ltb, le-ltb, eq-eqb}
 use Rattle.model.specs.Base.{pick}
 use Rattle.model.specs.Script.{bodyLength, stepTag, part, reading, stepsBy, stepsFrom, stepsOf, overwritten}
-use Rattle.model.specs.Records.{Bytes, Field, bytesOf, FitWidths, stepFields, recordOf, IsRecord, scriptOf, AllFit}
+use Rattle.model.specs.Records.{Bytes, Field, bytesOf, FitWidths, stepFields, stepNumbers, recordOf, IsRecord, scriptOf, AllFit}
 use Rattle.model.specs.Scripts.{placeBy, placeAfter}
 use Rattle.model.specs.Reachable.{StepRange}
-use Rattle.model.specs.Writer.{fit, writeCode, recordWritten, written, tooLarge, WriteCodes, WrittenReads, ReadWrites, allWritten, AllWritten, Rewritten}
+use Rattle.model.specs.Writer.{stepSaid, wideNumbers, StepSaid, fit, writeCode, recordWritten, written, tooLarge, WriteCodes, WrittenReads, ReadWrites, allWritten, AllWritten, Rewritten}
 use Rattle.model.specs.declared.Reading.{Reading}
 use Rattle.model.specs.declared.Reading.the-variants.{End, Malformed, Found}
 use Rattle.model.specs.declared.Step as steps
+use Rattle.model.specs.declared.WideStep as wide
+use Rattle.model.specs.declared.WideStep.the-variants as wides
 use Rattle.model.specs.declared.Step.the-variants.{Reset, Read, Write, Idle, BitTimes, Activity, Start, Outcome, Receive, ReceiveError}
 use Rattle.model.proofs.Choices.{and-l, and-r, pick-both, pick-cases, refused-if, refused-unless}
 use Rattle.model.proofs.Readings.{overwrites, Look, over, short, unknown, wrong, whole, look}
 use Rattle.model.proofs.Recorded.{tags, record-says, record-stands, script-says}
+use Rattle.model.proofs.FromAnywhere.{script-fit}
 
 -- ---- numbers that fit
 
@@ -62,6 +65,21 @@ fit-large (Receive x) h = rw (lt-ltb (x .identifier) (2 ^ 32) (h .0), lt-ltb (x 
 fit-large (ReceiveError k n) h = rw (at-most 255 k, at-most 255 n) (both-most (ltb 255 k) (ltb 255 n))
 
 -- ---- one record
+
+pub step-said : (e : wide.WideStep) → StepSaid e
+step-said e = record { numbers = numbers e }
+  where
+    numbers : (e : wide.WideStep) → stepNumbers (stepSaid e) ≡ wideNumbers e
+    numbers wides.Reset = refl
+    numbers (wides.Read o) = refl
+    numbers (wides.Write o w) = refl
+    numbers wides.Idle = refl
+    numbers (wides.BitTimes n) = refl
+    numbers wides.Activity = refl
+    numbers wides.Start = refl
+    numbers (wides.Outcome r) = refl
+    numbers (wides.Receive x) = refl
+    numbers (wides.ReceiveError k n) = refl
 
 pub record-length : (e : steps.Step) → length (recordOf e) ≡ 3 + bodyLength (stepTag e)
 unfolding bytesOf
@@ -189,7 +207,14 @@ end-over s p = go (look s p)
 
 pub rewritten : (s : List ℕ) → Rewritten s
 unfolding stepsOf
-rewritten s = record { front = front; whole = λ h k. front h ∙ take-all (placeAfter (length (stepsOf s)) s 0) s (end-over s (placeAfter (length (stepsOf s)) s 0) k) }
+rewritten s = record {
+  front = front;
+  whole = whole;
+  again = λ h k space n. all-script (stepsOf s) space (script-fit s h) (rw (whole h k) n) ∙ ap (λ (l : List ℕ). overwritten l space) (whole h k);
+}
   where
     front : Bytes s → scriptOf (stepsOf s) ≡ take (placeAfter (length (stepsOf s)) s 0) s
     front h = again s h (length s) 0 ∙ rw sub-zero
+
+    whole : Bytes s → reading s (placeAfter (length (stepsOf s)) s 0) ≡ End → scriptOf (stepsOf s) ≡ s
+    whole h k = front h ∙ take-all (placeAfter (length (stepsOf s)) s 0) s (end-over s (placeAfter (length (stepsOf s)) s 0) k)

@@ -12,7 +12,7 @@ use Rattle.model.specs.Fairness.{Fairness, requestsFrom}
 use Rattle.model.specs.Reachable.{InRange, StepsRange}
 use Rattle.model.specs.History.{Tied}
 use Rattle.model.specs.Script.{replay, stepsOf}
-use Rattle.model.specs.Records.{Bytes, AllFit}
+use Rattle.model.specs.Records.{Bytes, AllFit, opening}
 use Rattle.model.specs.Scripts.{answeredSteps}
 use Rattle.model.specs.declared.Mailbox.the-variants.{M0, M1, M2}
 use Rattle.model.specs.declared.Controller.{Controller}
@@ -79,7 +79,7 @@ pub record BehindReset (z : Controller) (before l : List steps.Step) : Type 0 wh
 
 -- a script that opens with the record of a reset
 abbrev pub opened : List ℕ → List ℕ
-opened rest = 0x01 ∷ 0x00 ∷ 0x00 ∷ rest
+opened rest = opening ++ rest
 
 -- it gives from any controller what it gives from hardware reset; its steps are a reset and those of the rest, and with the
 -- space that the first reply leaves all that is said above holds of them

@@ -9,18 +9,15 @@ use Rattle.model.specs.Base.{pick}
 use Rattle.model.specs.Registers.{reset}
 use Rattle.model.specs.Reachable.{InRange}
 use Rattle.model.specs.Step.{linesOf}
-use Rattle.model.specs.Script.{stayed, recordAt, reply, replyOf, overwritten, Progress, replay, stepsOf}
+use Rattle.model.specs.Script.{stayed, recordAt, reply, replyOf, overwritten, stops, Progress, replay, stepsOf}
 use Rattle.model.specs.Scripts.{isEnd, noSpace, Unchanged, Overwrites, lastAnswer}
-use Rattle.model.specs.Records.{Bytes, recordOf}
+use Rattle.model.specs.Records.{Bytes, recordOf, opening}
 use Rattle.model.specs.declared.Controller.{Controller}
 use Rattle.model.specs.declared.Replayed.{Replayed}
 use Rattle.model.specs.declared.Step as steps
 use Rattle.model.specs.declared.Step.the-variants.{Reset}
 
 -- ---- the opening
-
-abbrev pub opening : List ℕ
-opening = 0x01 ∷ 0x00 ∷ 0x00 ∷ []
 
 -- compared byte for byte
 abbrev pub sameBytes : List ℕ → List ℕ → Bool
@@ -59,6 +56,10 @@ endsWith r = record {
   replies = replyOf r;
 }
 
+-- where record after record of a lesson ends: as in a script, and at a refused opening
+abbrev pub lessonStops : Bool → ℕ → Bool
+lessonStops ended code = stops ended code || eqb code 11
+
 -- the replay of a lesson ends where its opening is refused
 unfoldable pub lessonReplay : Controller → List ℕ → ℕ → Progress
 lessonReplay z s space = pick (opens s) (replay z s space) (endsWith (lessonAt z s 0 space))
@@ -93,5 +94,6 @@ pub record LessonReplays (z : Controller) (s : List ℕ) (space : ℕ) : Type 0 
   pub refused : opens s ≡ false → lastAnswer (lessonReplay z s space .result) ≡ lessonAt z s 0 space
   pub nothing : opens s ≡ false → lessonReplay z s space .result .records ≡ 0
   pub replies : opens s ≡ false → lessonReplay z s space .replies ≡ replyOf (lessonAt z s 0 space)
+  pub stopped : lessonStops (lessonReplay z s space .result .ended) (lessonReplay z s space .result .code) ≡ true
   pub written : lessonReplay z s space .result .written ≡ length (lessonReplay z s space .replies)
   pub fits : length (lessonReplay z s space .replies) ≤ space

@@ -1,5 +1,5 @@
--- Records and replies as bytes: the tag and the numbers of each step, the record that says a step, and what a record and a reply
--- are read back as. Document 01: "Bench script".
+-- Records and replies as bytes: the record that says a step, and what a record and a reply are read back as. The table of tags and
+-- numbers is that of specs/Script.antt. Document 01: "Bench script".
 use mathlib.Core.Bool.{true}
 use mathlib.Core.Path.{_≡_}
 use mathlib.Core.List.{List, [], _∷_, _++_}
@@ -39,7 +39,7 @@ fields [] l = []
 fields (w ∷ k) [] = []
 fields (w ∷ k) (n ∷ l) = record { width = w; value = n } ∷ fields k l
 
--- the numbers of a step's body
+-- the numbers of a step's body, with their widths
 abbrev pub stepFields : steps.Step → List Field
 stepFields e = fields (bodyWidths (stepTag e)) (stepValues e)
 
@@ -59,6 +59,10 @@ stepBody e = fieldBytes (stepFields e)
 -- tag byte, two length bytes low first, body
 abbrev pub recordOf : steps.Step → List ℕ
 recordOf e = stepTag e ∷ (bytesOf 2 (length (stepBody e)) ++ stepBody e)
+
+-- the record of a hardware reset, byte for byte
+abbrev pub opening : List ℕ
+opening = 0x01 ∷ 0x00 ∷ 0x00 ∷ []
 
 -- a step as numbers
 abbrev pub stepNumbers : steps.Step → List ℕ

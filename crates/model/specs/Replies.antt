@@ -15,7 +15,7 @@ use Rattle.model.specs.Records.{Bytes}
 use Rattle.model.specs.declared.Answer.{Answer}
 use Rattle.model.specs.declared.Controller.{Controller}
 use Rattle.model.specs.declared.ReplyReading.{ReplyReading}
-use Rattle.model.specs.declared.ReplyReading.the-variants.{Broken, Said}
+use Rattle.model.specs.declared.ReplyReading.the-variants.{Malformed, Said}
 use Rattle.model.specs.declared.Replay as replays
 use Rattle.model.specs.declared.Step as steps
 use Rattle.model.specs.declared.Stepped.{Stepped}
@@ -26,21 +26,21 @@ use Rattle.model.specs.declared.Stepped.{Stepped}
 -- empty one is short
 unfoldable pub replyReading : List ℕ → ℕ → ReplyReading
 replyReading s p =
-    pick (ltb (length s - p) 3) (Broken 6)
-    (pick (not (eqb (byteAt s p) 0x81)) (Broken 7)
-    (pick (not (eqb (number16 s (p + 1)) 6)) (Broken 8)
-    (pick (ltb (length s - p) 9) (Broken 6)
+    pick (ltb (length s - p) 3) (Malformed 6)
+    (pick (not (eqb (byteAt s p) 0x81)) (Malformed 7)
+    (pick (not (eqb (number16 s (p + 1)) 6)) (Malformed 8)
+    (pick (ltb (length s - p) 9) (Malformed 6)
     (Said (record { code = byteAt s (p + 3); lines = byteAt s (p + 4); word = number32 s (p + 5) }) (p + 9)))))
 
 -- a reading of a reply as numbers: 1 one that can't be read, and its code; 2 one that can, the place behind it, and what it says
 abbrev pub replyNumbers : ReplyReading → List ℕ
-replyNumbers (Broken k) = 1 ∷ k ∷ []
+replyNumbers (Malformed k) = 1 ∷ k ∷ []
 replyNumbers (Said a q) = 2 ∷ q ∷ a .code ∷ a .lines ∷ a .word ∷ []
 
 -- ---- all replies
 
 unfoldable pub answersBy : ReplyReading → (ℕ → List Answer) → List Answer
-answersBy (Broken k) f = []
+answersBy (Malformed k) f = []
 answersBy (Said a q) f = a ∷ f q
 
 -- what at most n replies from place p on say
@@ -54,22 +54,22 @@ answersIn s = answersFrom (length s) s 0
 
 -- ---- what is promised
 
-abbrev pub replyTag : List ℕ → ℕ → Bool
-replyTag s p = eqb (byteAt s p) 0x81
+abbrev pub isReplyTag : List ℕ → ℕ → Bool
+isReplyTag s p = eqb (byteAt s p) 0x81
 
-abbrev pub replyLength : List ℕ → ℕ → Bool
-replyLength s p = eqb (number16 s (p + 1)) 6
+abbrev pub isReplyLength : List ℕ → ℕ → Bool
+isReplyLength s p = eqb (number16 s (p + 1)) 6
 
 abbrev pub replyShort : List ℕ → ℕ → Bool
 replyShort s p = ltb (length s - p) 9
 
 -- each code exactly when; no value of the code, the lines or the word is refused
 pub record ReplyCodes (s : List ℕ) (p : ℕ) : Type 0 where
-  pub said : replyShort s p ≡ false → replyTag s p ≡ true → replyLength s p ≡ true → replyNumbers (replyReading s p) ≡ 2 ∷ (p + 9) ∷ byteAt s (p + 3) ∷ byteAt s (p + 4) ∷ number32 s (p + 5) ∷ []
+  pub said : replyShort s p ≡ false → isReplyTag s p ≡ true → isReplyLength s p ≡ true → replyNumbers (replyReading s p) ≡ 2 ∷ (p + 9) ∷ byteAt s (p + 3) ∷ byteAt s (p + 4) ∷ number32 s (p + 5) ∷ []
   pub header : headerShort s p ≡ true → replyNumbers (replyReading s p) ≡ 1 ∷ 6 ∷ []
-  pub tag : headerShort s p ≡ false → replyTag s p ≡ false → replyNumbers (replyReading s p) ≡ 1 ∷ 7 ∷ []
-  pub size : headerShort s p ≡ false → replyTag s p ≡ true → replyLength s p ≡ false → replyNumbers (replyReading s p) ≡ 1 ∷ 8 ∷ []
-  pub body : headerShort s p ≡ false → replyTag s p ≡ true → replyLength s p ≡ true → replyShort s p ≡ true → replyNumbers (replyReading s p) ≡ 1 ∷ 6 ∷ []
+  pub tag : headerShort s p ≡ false → isReplyTag s p ≡ false → replyNumbers (replyReading s p) ≡ 1 ∷ 7 ∷ []
+  pub size : headerShort s p ≡ false → isReplyTag s p ≡ true → isReplyLength s p ≡ false → replyNumbers (replyReading s p) ≡ 1 ∷ 8 ∷ []
+  pub body : headerShort s p ≡ false → isReplyTag s p ≡ true → isReplyLength s p ≡ true → replyShort s p ≡ true → replyNumbers (replyReading s p) ≡ 1 ∷ 6 ∷ []
   pub empty : length s ≤ p → replyNumbers (replyReading s p) ≡ 1 ∷ 6 ∷ []
 
 -- the numbers tell every two readings apart

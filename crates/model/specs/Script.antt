@@ -27,7 +27,7 @@ number16 b i = byteAt b i + byteAt b (i + 1) * 256
 abbrev pub number32 : List ℕ → ℕ → ℕ
 number32 b i = number16 b i + number16 b (i + 2) * 65536
 
--- ---- the table of records, which reader and writer share
+-- ---- the table of records, for the reader and the writer: tags and widths, and a step and its numbers in both directions
 
 abbrev pub isTag : ℕ → Bool
 isTag t = leb 1 t && leb t 10
@@ -42,19 +42,22 @@ bodyWidths t =
     (pick (eqb t 9) (4 ∷ 1 ∷ 4 ∷ 4 ∷ [])
     (pick (eqb t 10) (1 ∷ 1 ∷ []) [])))))
 
+abbrev pub valueAt : List ℕ → ℕ → ℕ
+valueAt l i = getD l i 0
+
 -- the step of a tag and the numbers of its body
 abbrev pub stepOf : ℕ → List ℕ → steps.Step
 stepOf t l =
     pick (eqb t 1) Reset
-    (pick (eqb t 2) (Read (byteAt l 0))
-    (pick (eqb t 3) (Write (byteAt l 0) (byteAt l 1))
+    (pick (eqb t 2) (Read (valueAt l 0))
+    (pick (eqb t 3) (Write (valueAt l 0) (valueAt l 1))
     (pick (eqb t 4) Idle
-    (pick (eqb t 5) (BitTimes (byteAt l 0))
+    (pick (eqb t 5) (BitTimes (valueAt l 0))
     (pick (eqb t 6) Activity
     (pick (eqb t 7) Start
-    (pick (eqb t 8) (Outcome (byteAt l 0))
-    (pick (eqb t 9) (Receive (record { identifier = byteAt l 0; length = byteAt l 1; low = byteAt l 2; high = byteAt l 3 }))
-    (ReceiveError (byteAt l 0) (byteAt l 1))))))))))
+    (pick (eqb t 8) (Outcome (valueAt l 0))
+    (pick (eqb t 9) (Receive (record { identifier = valueAt l 0; length = valueAt l 1; low = valueAt l 2; high = valueAt l 3 }))
+    (ReceiveError (valueAt l 0) (valueAt l 1))))))))))
 
 -- the tag of a step
 abbrev pub stepTag : steps.Step → ℕ
@@ -132,7 +135,7 @@ unfoldable pub reply : ℕ → ℕ → ℕ → List ℕ
 reply code lines word =
     0x81 ∷ 0x06 ∷ 0x00 ∷ code ∷ lines ∷ word % 256 ∷ word / 2 ^ 8 % 256 ∷ word / 2 ^ 16 % 256 ∷ word / 2 ^ 24 % 256 ∷ []
 
--- codes 6 to 9: the place stays, the word is 0, the lines are those of the unchanged state
+-- codes 6 to 9, and 11 of document 02: the place stays, the word is 0, the lines are those of the unchanged state
 abbrev pub stayed : Controller → ℕ → ℕ → Replayed
 stayed z p k = record { controller = z; place = p; ended = false; code = k; lines = linesOf (z .core); word = 0 }
 

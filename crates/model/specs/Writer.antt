@@ -8,7 +8,7 @@ use lib.Dec.{eqb, ltb}
 use lib.ListN.{length, take, drop}
 use Rattle.model.specs.Base.{pick}
 use Rattle.model.specs.Script.{stepTag, bodyLength, part, reading, stepsOf, overwritten}
-use Rattle.model.specs.Records.{Bytes, Field, stepFields, recordOf, scriptOf, AllFit}
+use Rattle.model.specs.Records.{Bytes, Field, stepFields, stepNumbers, recordOf, scriptOf, AllFit}
 use Rattle.model.specs.Reachable.{StepRange}
 use Rattle.model.specs.Scripts.{Overwrites, placeAfter}
 use Rattle.model.specs.declared.Frame.{Frame}
@@ -38,6 +38,19 @@ stepSaid (wides.Outcome r) = Outcome r
 stepSaid (wides.Receive x) = Receive (frameSaid x)
 stepSaid (wides.ReceiveError k n) = ReceiveError k n
 
+-- a caller's step as numbers: its tag, and its numbers in the order of the record
+abbrev pub wideNumbers : wide.WideStep → List ℕ
+wideNumbers wides.Reset = 0x01 ∷ []
+wideNumbers (wides.Read o) = 0x02 ∷ o ∷ []
+wideNumbers (wides.Write o w) = 0x03 ∷ o ∷ w ∷ []
+wideNumbers wides.Idle = 0x04 ∷ []
+wideNumbers (wides.BitTimes n) = 0x05 ∷ n ∷ []
+wideNumbers wides.Activity = 0x06 ∷ []
+wideNumbers wides.Start = 0x07 ∷ []
+wideNumbers (wides.Outcome r) = 0x08 ∷ r ∷ []
+wideNumbers (wides.Receive x) = 0x09 ∷ x .identifier ∷ x .length ∷ x .low ∷ x .high ∷ []
+wideNumbers (wides.ReceiveError k n) = 0x0A ∷ k ∷ n ∷ []
+
 -- whether each number fits its width
 abbrev pub fit : List Field → Bool
 fit [] = true
@@ -55,6 +68,10 @@ unfoldable pub written : steps.Step → ℕ → writings.Written
 written e space = record { code = writeCode e space; bytes = length (recordWritten e space) }
 
 -- ---- what is promised of one record
+
+-- the step has the caller's numbers, whatever they are
+pub record StepSaid (e : wide.WideStep) : Type 0 where
+  pub numbers : stepNumbers (stepSaid e) ≡ wideNumbers e
 
 -- a number that its tag can't hold, though it fits 32 bits
 abbrev pub tooLarge : steps.Step → Bool
@@ -102,3 +119,4 @@ pub record AllWritten (l : List steps.Step) (space : List ℕ) : Type 0 where
 pub record Rewritten (s : List ℕ) : Type 0 where
   pub front : Bytes s → scriptOf (stepsOf s) ≡ take (placeAfter (length (stepsOf s)) s 0) s
   pub whole : Bytes s → reading s (placeAfter (length (stepsOf s)) s 0) ≡ End → scriptOf (stepsOf s) ≡ s
+  pub again : Bytes s → reading s (placeAfter (length (stepsOf s)) s 0) ≡ End → (space : List ℕ) → length s ≤ length space → allWritten (stepsOf s) space ≡ overwritten s space

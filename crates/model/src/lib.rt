@@ -281,7 +281,7 @@ pub struct Written {
 
 // What stands at a place of some replies: one that can't be read, or what it says and the place behind it.
 pub enum ReplyReading {
-    Broken(u8),
+    Malformed(u8),
     Said(Answer, usize),
 }
 

@@ -21,14 +21,14 @@ const NUMBER_WIDTH: usize = 10;
 
 const CODE_WIDTH: usize = 4;
 
-const LINES_WIDTH: usize = 17;
+const LINES_WIDTH: usize = 18;
 
 // ---- a line of text
 
 fn head() -> Line {
     put(
         text::empty(),
-        b"     reply  code  lines              word\n",
+        b"     reply  code  lines               word\n",
     )
 }
 
@@ -53,10 +53,6 @@ fn row(n: u64, a: Answer) -> Line {
 
 // ---- a reply that can't be read
 
-fn length_said(low: u8, high: u8) -> u64 {
-    (low as u64) + (high as u64) * 256
-}
-
 fn with_tag(l: Line, tag: u8) -> Line {
     let a = text::hex(put(l, b"tag "), tag as u32, 2);
     put(a, b", a reply has 0x81")
@@ -72,8 +68,8 @@ fn with_reason(l: Line, code: u8, rest: &[u8]) -> Line {
         return with_tag(l, rest[0]);
     }
     if code == 8 {
-        let length = length_said(rest[1], rest[2]);
-        return said(l, b"length %, a reply has 6", 0, length);
+        let length = records::decode::pair(rest[1], rest[2]);
+        return said(l, b"length %, a reply has 6", 0, length as u64);
     }
     let body = n - HEADER_LENGTH;
     said(l, b"short body, % bytes of 6", 0, body as u64)
@@ -203,7 +199,7 @@ fn round(p: Progress, space: &mut [u8], out: &mut [u8]) -> Progress {
     }
     let x = writer::replies::reading(rest, 0);
     match x {
-        ReplyReading::Broken(code) => broken(p, code, rest),
+        ReplyReading::Malformed(code) => broken(p, code, rest),
         ReplyReading::Said(a, _) => told(p, a, out),
     }
 }

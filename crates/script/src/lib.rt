@@ -86,16 +86,16 @@ fn write_reply(reply: &mut [u8], code: u8, lines: u8, word: u32)
     reply[8] = ((word >> 24) % 256) as u8;
 }
 
-// The reply of a refusal that comes before any record is read, where there is space for it. The code that is answered: 9 without.
-pub fn refuse(reply: &mut [u8], code: u8, lines: u8) -> u8
-    ensures { λ r. ⌜ r ≡ base.pick (ltb (length (now (reply .entry))) 9) 9 code ⌝ }
-    ensures { λ _. ⌜ now (reply .exit) ≡ scripts.overwritten (base.pick (ltb (length (now (reply .entry))) 9) [] (scripts.reply code lines 0)) (now (reply .entry)) ⌝ }
+// The reply to a lesson's opening that is refused, where there is space for it, and the code that is answered: 9 without.
+pub fn refuse_opening(reply: &mut [u8], lines: u8) -> u8
+    ensures { λ r. ⌜ r ≡ base.pick (ltb (length (now (reply .entry))) 9) 9 11 ⌝ }
+    ensures { λ _. ⌜ now (reply .exit) ≡ scripts.overwritten (base.pick (ltb (length (now (reply .entry))) 9) [] (scripts.reply 11 lines 0)) (now (reply .entry)) ⌝ }
 {
     if reply.len() < 9 {
         return 9;
     }
-    write_reply(reply, code, lines, 0);
-    code
+    write_reply(reply, 11, lines, 0);
+    11
 }
 
 // The end and code 9 have no reply.

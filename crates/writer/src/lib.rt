@@ -62,13 +62,10 @@ fn fits(e: WideStep) -> bool
 fn write_code(e: WideStep, space: usize) -> u8
     ensures { λ r. ⌜ r ≡ writer.writeCode (writer.stepSaid e) space ⌝ }
 {
-    if space < record_length(e) {
-        return 9;
-    }
-    if fits(e) {
-        return 0;
-    }
-    5
+    let short = space < record_length(e);
+    let holds = fits(e);
+    let code = bits::pick_u8(holds, 0, 5);
+    bits::pick_u8(short, 9, code)
 }
 
 // ---- its record
@@ -79,15 +76,15 @@ fn put_record(e: WideStep, space: &mut [u8])
 {
     match e {
         WideStep::Reset => put::opening(space),
-        WideStep::Read(offset) => put::half_record(2, offset, space),
-        WideStep::Write(offset, word) => put::write_record(offset, word, space),
+        WideStep::Read(offset) => put::half_step(2, offset, space),
+        WideStep::Write(offset, word) => put::write_step(offset, word, space),
         WideStep::Idle => put::header(4, 0, space),
-        WideStep::BitTimes(n) => put::half_record(5, n, space),
+        WideStep::BitTimes(n) => put::half_step(5, n, space),
         WideStep::Activity => put::header(6, 0, space),
         WideStep::Start => put::header(7, 0, space),
-        WideStep::Outcome(result) => put::outcome_record(result, space),
-        WideStep::Receive(x) => put::receive_record(x, space),
-        WideStep::ReceiveError(code, by) => put::receive_error_record(code, by, space),
+        WideStep::Outcome(result) => put::outcome_step(result, space),
+        WideStep::Receive(x) => put::receive_step(x, space),
+        WideStep::ReceiveError(code, by) => put::receive_error_step(code, by, space),
     }
 }
 

@@ -62,7 +62,7 @@ pub(crate) fn opening(space: &mut [u8])
 }
 
 // A record with one number of two bytes.
-pub(crate) fn half_record(tag: u8, n: u32, space: &mut [u8])
+pub(crate) fn half_step(tag: u8, n: u32, space: &mut [u8])
     requires { ⌜ 5 ≤ length (now space) ⌝ }
     ensures { λ _. ⌜ now (space .exit) ≡ scripts.overwritten ((tag ∷ records.bytesOf 2 2) ++ records.bytesOf 2 n) (now (space .entry)) ⌝ }
 {
@@ -70,7 +70,7 @@ pub(crate) fn half_record(tag: u8, n: u32, space: &mut [u8])
     half(n, &mut space[3..]);
 }
 
-pub(crate) fn write_record(offset: u32, w: u32, space: &mut [u8])
+pub(crate) fn write_step(offset: u32, w: u32, space: &mut [u8])
     requires { ⌜ 9 ≤ length (now space) ⌝ }
     ensures { λ _. ⌜ now (space .exit) ≡ scripts.overwritten (records.recordOf (step.Write offset w)) (now (space .entry)) ⌝ }
 {
@@ -79,7 +79,7 @@ pub(crate) fn write_record(offset: u32, w: u32, space: &mut [u8])
     word(w, &mut space[5..]);
 }
 
-pub(crate) fn outcome_record(result: u32, space: &mut [u8])
+pub(crate) fn outcome_step(result: u32, space: &mut [u8])
     requires { ⌜ 4 ≤ length (now space) ⌝ }
     ensures { λ _. ⌜ now (space .exit) ≡ scripts.overwritten (records.recordOf (step.Outcome result)) (now (space .entry)) ⌝ }
 {
@@ -87,7 +87,7 @@ pub(crate) fn outcome_record(result: u32, space: &mut [u8])
     byte(result, &mut space[3..]);
 }
 
-pub(crate) fn receive_record(x: WideFrame, space: &mut [u8])
+pub(crate) fn receive_step(x: WideFrame, space: &mut [u8])
     requires { ⌜ 16 ≤ length (now space) ⌝ }
     ensures { λ _. ⌜ now (space .exit) ≡ scripts.overwritten (records.recordOf (step.Receive (writer.frameSaid x))) (now (space .entry)) ⌝ }
 {
@@ -98,7 +98,7 @@ pub(crate) fn receive_record(x: WideFrame, space: &mut [u8])
     word(x.high, &mut space[12..]);
 }
 
-pub(crate) fn receive_error_record(code: u32, by: u32, space: &mut [u8])
+pub(crate) fn receive_error_step(code: u32, by: u32, space: &mut [u8])
     requires { ⌜ 5 ≤ length (now space) ⌝ }
     ensures { λ _. ⌜ now (space .exit) ≡ scripts.overwritten (records.recordOf (step.ReceiveError code by)) (now (space .entry)) ⌝ }
 {

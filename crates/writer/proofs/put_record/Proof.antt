@@ -15,16 +15,16 @@ opening-requires c κs = room-of (c .before .enum-told .given .1) (c .before .be
 enum-known-e : tie.Need-enum-known-e
 enum-known-e c = search needs
 
-half-record-requires : tie.Need-half-record-requires
+half-step-requires : tie.Need-half-step-requires
 unfolding bytesOf fieldBytes
-half-record-requires c κs = room-of (c .before .before .e .given .1) (c .before .before .before .before .before .pre)
+half-step-requires c κs = room-of (c .before .before .e .given .1) (c .before .before .before .before .before .pre)
 
 enum-known-e-2 : tie.Need-enum-known-e-2
 enum-known-e-2 c = search needs
 
-write-record-requires : tie.Need-write-record-requires
+write-step-requires : tie.Need-write-step-requires
 unfolding bytesOf fieldBytes
-write-record-requires c κs = room-of (c .before .before .e2 .given .1) (c .before .before .before .before .before .pre)
+write-step-requires c κs = room-of (c .before .before .e2 .given .1) (c .before .before .before .before .before .pre)
 
 enum-told-2 : tie.Need-enum-told-2
 enum-told-2 c = search needs
@@ -36,9 +36,9 @@ header-requires c κs = room-of (c .before .enum-told2 .given .1) (c .before .be
 enum-known-e-3 : tie.Need-enum-known-e-3
 enum-known-e-3 c = search needs
 
-half-record-requires-2 : tie.Need-half-record-requires-2
+half-step-requires-2 : tie.Need-half-step-requires-2
 unfolding bytesOf fieldBytes
-half-record-requires-2 c κs = room-of (c .before .before .e3 .given .1) (c .before .before .before .before .before .pre)
+half-step-requires-2 c κs = room-of (c .before .before .e3 .given .1) (c .before .before .before .before .before .pre)
 
 enum-told-3 : tie.Need-enum-told-3
 enum-told-3 c = search needs
@@ -57,23 +57,23 @@ header-requires-3 c κs = room-of (c .before .enum-told4 .given .1) (c .before .
 enum-known-e-4 : tie.Need-enum-known-e-4
 enum-known-e-4 c = search needs
 
-outcome-record-requires : tie.Need-outcome-record-requires
+outcome-step-requires : tie.Need-outcome-step-requires
 unfolding bytesOf fieldBytes
-outcome-record-requires c κs = room-of (c .before .before .e4 .given .1) (c .before .before .before .before .before .pre)
+outcome-step-requires c κs = room-of (c .before .before .e4 .given .1) (c .before .before .before .before .before .pre)
 
 enum-known-e-5 : tie.Need-enum-known-e-5
 enum-known-e-5 c = search needs
 
-receive-record-requires : tie.Need-receive-record-requires
+receive-step-requires : tie.Need-receive-step-requires
 unfolding bytesOf fieldBytes
-receive-record-requires c κs = room-of (c .before .before .e5 .given .1) (c .before .before .before .before .before .pre)
+receive-step-requires c κs = room-of (c .before .before .e5 .given .1) (c .before .before .before .before .before .pre)
 
 enum-known-e-6 : tie.Need-enum-known-e-6
 enum-known-e-6 c = search needs
 
-receive-error-record-requires : tie.Need-receive-error-record-requires
+receive-error-step-requires : tie.Need-receive-error-step-requires
 unfolding bytesOf fieldBytes
-receive-error-record-requires c κs = room-of (c .before .before .e6 .given .1) (c .before .before .before .before .before .pre)
+receive-error-step-requires c κs = room-of (c .before .before .e6 .given .1) (c .before .before .before .before .before .pre)
 
 same-length : tie.Need-same-length
 same-length c = search needs
@@ -87,14 +87,14 @@ same-length-2 c = search needs
 
 returns-2 : tie.Need-returns-2
 unfolding bytesOf fieldBytes
-returns-2 c = record-of (c .before .before .before .before .before .before .before .before .args .space .now) (c .before .before .before .before .before .e .given .1) (c .before .before .half-record .ensures)
+returns-2 c = record-of (c .before .before .before .before .before .before .before .before .args .space .now) (c .before .before .before .before .before .e .given .1) (c .before .before .half-step .ensures)
 
 same-length-3 : tie.Need-same-length-3
 same-length-3 c = search needs
 
 returns-3 : tie.Need-returns-3
 unfolding bytesOf fieldBytes
-returns-3 c = record-of (c .before .before .before .before .before .before .before .before .args .space .now) (c .before .before .before .before .before .e2 .given .1) (c .before .before .write-record .ensures)
+returns-3 c = record-of (c .before .before .before .before .before .before .before .before .args .space .now) (c .before .before .before .before .before .e2 .given .1) (c .before .before .write-step .ensures)
 
 same-length-4 : tie.Need-same-length-4
 same-length-4 c = search needs
@@ -108,7 +108,7 @@ same-length-5 c = search needs
 
 returns-5 : tie.Need-returns-5
 unfolding bytesOf fieldBytes
-returns-5 c = record-of (c .before .before .before .before .before .before .before .before .args .space .now) (c .before .before .before .before .before .e3 .given .1) (c .before .before .half-record2 .ensures)
+returns-5 c = record-of (c .before .before .before .before .before .before .before .before .args .space .now) (c .before .before .before .before .before .e3 .given .1) (c .before .before .half-step2 .ensures)
 
 same-length-6 : tie.Need-same-length-6
 same-length-6 c = search needs
@@ -129,21 +129,21 @@ same-length-8 c = search needs
 
 returns-8 : tie.Need-returns-8
 unfolding bytesOf fieldBytes
-returns-8 c = record-of (c .before .before .before .before .before .before .before .before .args .space .now) (c .before .before .before .before .before .e4 .given .1) (c .before .before .outcome-record .ensures)
+returns-8 c = record-of (c .before .before .before .before .before .before .before .before .args .space .now) (c .before .before .before .before .before .e4 .given .1) (c .before .before .outcome-step .ensures)
 
 same-length-9 : tie.Need-same-length-9
 same-length-9 c = search needs
 
 returns-9 : tie.Need-returns-9
 unfolding bytesOf fieldBytes
-returns-9 c = record-of (c .before .before .before .before .before .before .before .before .args .space .now) (c .before .before .before .before .before .e5 .given .1) (c .before .before .receive-record .ensures)
+returns-9 c = record-of (c .before .before .before .before .before .before .before .before .args .space .now) (c .before .before .before .before .before .e5 .given .1) (c .before .before .receive-step .ensures)
 
 same-length-10 : tie.Need-same-length-10
 same-length-10 c = search needs
 
 returns-10 : tie.Need-returns-10
 unfolding bytesOf fieldBytes
-returns-10 c = record-of (c .before .before .before .before .before .before .before .before .args .space .now) (c .before .before .before .before .before .e6 .given .1) (c .before .before .receive-error-record .ensures)
+returns-10 c = record-of (c .before .before .before .before .before .before .before .before .args .space .now) (c .before .before .before .before .before .e6 .given .1) (c .before .before .receive-error-step .ensures)
 
 pub put-record-spec : {M : Type 1} → statement M
 put-record-spec =
@@ -152,23 +152,23 @@ put-record-spec =
     enum-told
     opening-requires
     enum-known-e
-    half-record-requires
+    half-step-requires
     enum-known-e-2
-    write-record-requires
+    write-step-requires
     enum-told-2
     header-requires
     enum-known-e-3
-    half-record-requires-2
+    half-step-requires-2
     enum-told-3
     header-requires-2
     enum-told-4
     header-requires-3
     enum-known-e-4
-    outcome-record-requires
+    outcome-step-requires
     enum-known-e-5
-    receive-record-requires
+    receive-step-requires
     enum-known-e-6
-    receive-error-record-requires
+    receive-error-step-requires
     same-length
     returns
     same-length-2

@@ -18,14 +18,14 @@ sub-left c = search needs
 
 returns : tie.Need-returns
 unfolding replyReading
-returns c = let a = c .before .before .before .args in let m = c .before .least .ensures .0 in simp (lt-ltb (length (a .given .now) - a .place) 3 (omega (arith, m, c .if1 .taken)))
+returns c = let a = c .before .before .before .args in let m = c .before .least .ensures .0 in simp (lt-ltb (length (a .replies .now) - a .place) 3 (omega (arith, m, c .if1 .taken)))
 
 shared-slice-read-if2 : tie.Need-shared-slice-read-if2
 shared-slice-read-if2 c = search needs
 
 returns-2 : tie.Need-returns-2
 unfolding replyReading
-returns-2 c = let a = c .before .before .before .before .before .args in let m = c .before .before .before .least .ensures .0 in simp (le-ltb (length (a .given .now) - a .place) 3 (omega (arith, m, c .before .before .if1 .left)), ne-eqb _ _ (c .if2 .taken))
+returns-2 c = let a = c .before .before .before .before .before .args in let m = c .before .before .before .least .ensures .0 in simp (le-ltb (length (a .replies .now) - a .place) 3 (omega (arith, m, c .before .before .if1 .left)), ne-eqb _ _ (c .if2 .taken))
 
 add-i : tie.Need-add-i
 add-i c = search needs
@@ -44,11 +44,11 @@ pair-requires c κs = search needs
 
 returns-3 : tie.Need-returns-3
 unfolding replyReading
-returns-3 c = let a = c .before .before .before .before .before .before .before .before .before .args in let m = c .before .before .before .before .before .before .before .least .ensures .0 in simp (le-ltb (length (a .given .now) - a .place) 3 (omega (arith, m, c .before .before .before .before .before .before .if1 .left)), eq-eqb _ _ (c .before .before .before .before .if2 .left), ap (λ (n : ℕ). eqb n 6) (sym (c .before .pair .ensures)) ∙ ne-eqb _ _ (c .if3 .taken))
+returns-3 c = let a = c .before .before .before .before .before .before .before .before .before .args in let m = c .before .before .before .before .before .before .before .least .ensures .0 in simp (le-ltb (length (a .replies .now) - a .place) 3 (omega (arith, m, c .before .before .before .before .before .before .if1 .left)), eq-eqb _ _ (c .before .before .before .before .if2 .left), ap (λ (n : ℕ). eqb n 6) (sym (c .before .pair .ensures)) ∙ ne-eqb _ _ (c .if3 .taken))
 
 returns-4 : tie.Need-returns-4
 unfolding replyReading
-returns-4 c = let a = c .before .before .before .before .before .before .before .before .before .before .args in let m = c .before .before .before .before .before .before .before .before .least .ensures .0 in simp (le-ltb (length (a .given .now) - a .place) 3 (omega (arith, m, c .before .before .before .before .before .before .before .if1 .left)), eq-eqb _ _ (c .before .before .before .before .before .if2 .left), eq-eqb _ 6 (sym (c .before .before .pair .ensures) ∙ c .before .if3 .left), lt-ltb (length (a .given .now) - a .place) 9 (omega (arith, m, c .if4 .taken)))
+returns-4 c = let a = c .before .before .before .before .before .before .before .before .before .before .args in let m = c .before .before .before .before .before .before .before .before .least .ensures .0 in simp (le-ltb (length (a .replies .now) - a .place) 3 (omega (arith, m, c .before .before .before .before .before .before .before .if1 .left)), eq-eqb _ _ (c .before .before .before .before .before .if2 .left), eq-eqb _ 6 (sym (c .before .before .pair .ensures) ∙ c .before .if3 .left), lt-ltb (length (a .replies .now) - a .place) 9 (omega (arith, m, c .if4 .taken)))
 
 add-a : tie.Need-add-a
 add-a c = search needs
@@ -94,7 +94,7 @@ add-t14 c = search needs
 
 returns-5 : tie.Need-returns-5
 unfolding replyReading
-returns-5 c = let a = c .before .before .before .before .before .before .before .before .before .before .before .before .before .before .before .before .before .args in let m = c .before .before .before .before .before .before .before .before .before .before .before .before .before .before .before .least .ensures .0 in simp (le-ltb (length (a .given .now) - a .place) 3 (omega (arith, m, c .before .before .before .before .before .before .before .before .before .before .before .before .before .before .if1 .left)), eq-eqb _ _ (c .before .before .before .before .before .before .before .before .before .before .before .before .if2 .left), eq-eqb _ 6 (sym (c .before .before .before .before .before .before .before .before .before .pair .ensures) ∙ c .before .before .before .before .before .before .before .before .if3 .left), le-ltb (length (a .given .now) - a .place) 9 (omega (arith, m, c .before .before .before .before .before .before .before .if4 .left)), c .word .ensures)
+returns-5 c = let a = c .before .before .before .before .before .before .before .before .before .before .before .before .before .before .before .before .before .args in let m = c .before .before .before .before .before .before .before .before .before .before .before .before .before .before .before .least .ensures .0 in simp (le-ltb (length (a .replies .now) - a .place) 3 (omega (arith, m, c .before .before .before .before .before .before .before .before .before .before .before .before .before .before .if1 .left)), eq-eqb _ _ (c .before .before .before .before .before .before .before .before .before .before .before .before .if2 .left), eq-eqb _ 6 (sym (c .before .before .before .before .before .before .before .before .before .pair .ensures) ∙ c .before .before .before .before .before .before .before .before .if3 .left), le-ltb (length (a .replies .now) - a .place) 9 (omega (arith, m, c .before .before .before .before .before .before .before .if4 .left)), c .word .ensures)
 
 pub reading-spec : {M : Type 1} → statement M
 reading-spec =

@@ -5,8 +5,8 @@ use native.Mathlib.Omega.{arith}
 use Rattle.model.specs.Records.{bytesOf, fieldBytes}
 use Rattle.model.proofs.Spaces.{put-behind}
 use borrow.Author.Needs.{needs}
-use Rattle.writer.proofs.put.outcome_record.Statement.{statement}
-use Rattle.writer.proofs.put.outcome_record.Tie as tie
+use Rattle.writer.proofs.put.outcome_step.Statement.{statement}
+use Rattle.writer.proofs.put.outcome_step.Tie as tie
 
 header-requires : tie.Need-header-requires
 header-requires c κs = search needs
@@ -33,8 +33,8 @@ returns c =
     let h = c .before .before .before .before .before .before .header in
     put-behind (8 ∷ bytesOf 2 1) (bytesOf 1 (a .result)) (a .space .now) (h .last .1 .1 .0) (c .before .before .byte .last .1 .0) 3 refl (omega (arith, c .before .before .before .before .before .before .before .before .before .pre)) (h .ensures) (c .before .before .byte .ensures)
 
-pub outcome-record-spec : {M : Type 1} → statement M
-outcome-record-spec =
+pub outcome-step-spec : {M : Type 1} → statement M
+outcome-step-spec =
     tie.close
     (tie.spec
     header-requires

@@ -1,8 +1,8 @@
 -- Without space nothing is written.
 use borrow.Author.Needs.{needs}
 use borrow.Author.Tests.{lt-ltb, le-ltb}
-use Rattle.script.proofs.refuse.Statement.{statement}
-use Rattle.script.proofs.refuse.Tie as tie
+use Rattle.script.proofs.refuse_opening.Statement.{statement}
+use Rattle.script.proofs.refuse_opening.Tie as tie
 
 returns : tie.Need-returns
 returns c = (rw (lt-ltb _ _ (c .if1 .taken)), rw (lt-ltb _ _ (c .if1 .taken)))
@@ -18,5 +18,5 @@ returns-2 c =
     let room = le-ltb _ _ (c .before .before .before .before .if1 .left) in
     (rw room, rw room (c .before .before .write-reply .ensures))
 
-pub refuse-spec : {M : Type 1} → statement M
-refuse-spec = tie.close (tie.spec returns write-reply-requires same-length returns-2)
+pub refuse-opening-spec : {M : Type 1} → statement M
+refuse-opening-spec = tie.close (tie.spec returns write-reply-requires same-length returns-2)

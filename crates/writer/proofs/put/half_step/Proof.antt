@@ -5,8 +5,8 @@ use native.Mathlib.Omega.{arith}
 use Rattle.model.specs.Records.{bytesOf}
 use Rattle.model.proofs.Spaces.{put-behind}
 use borrow.Author.Needs.{needs}
-use Rattle.writer.proofs.put.half_record.Statement.{statement}
-use Rattle.writer.proofs.put.half_record.Tie as tie
+use Rattle.writer.proofs.put.half_step.Statement.{statement}
+use Rattle.writer.proofs.put.half_step.Tie as tie
 
 header-requires : tie.Need-header-requires
 header-requires c κs = search needs
@@ -33,8 +33,8 @@ returns c =
     let h = c .before .before .before .before .before .before .header in
     put-behind (a .tag ∷ bytesOf 2 2) (bytesOf 2 (a .n)) (a .space .now) (h .last .1 .1 .0) (c .before .before .half .last .1 .0) 3 refl (omega (arith, c .before .before .before .before .before .before .before .before .before .pre)) (h .ensures) (c .before .before .half .ensures)
 
-pub half-record-spec : {M : Type 1} → statement M
-half-record-spec =
+pub half-step-spec : {M : Type 1} → statement M
+half-step-spec =
     tie.close
     (tie.spec
     header-requires

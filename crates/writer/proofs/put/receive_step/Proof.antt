@@ -6,8 +6,8 @@ use native.Mathlib.Omega.{arith}
 use Rattle.model.specs.Records.{bytesOf, fieldBytes}
 use Rattle.model.proofs.Spaces.{put-behind}
 use borrow.Author.Needs.{needs}
-use Rattle.writer.proofs.put.receive_record.Statement.{statement}
-use Rattle.writer.proofs.put.receive_record.Tie as tie
+use Rattle.writer.proofs.put.receive_step.Statement.{statement}
+use Rattle.writer.proofs.put.receive_step.Tie as tie
 
 header-requires : tie.Need-header-requires
 header-requires c κs = search needs
@@ -78,8 +78,8 @@ returns c =
     let three = put-behind r2 (bytesOf 4 (x .low)) s _ (c .before .before .before .before .before .before .word2 .last .1 .0) 8 refl (omega (arith, c .before .before .before .before .before .before .before .before .before .before .before .before .before .before .before .before .before .before .before .before .before .pre)) two (c .before .before .before .before .before .before .word2 .ensures) in
     put-behind r3 (bytesOf 4 (x .high)) s _ (c .before .before .word3 .last .1 .0) 12 refl (omega (arith, c .before .before .before .before .before .before .before .before .before .before .before .before .before .before .before .before .before .before .before .before .before .pre)) three (c .before .before .word3 .ensures)
 
-pub receive-record-spec : {M : Type 1} → statement M
-receive-record-spec =
+pub receive-step-spec : {M : Type 1} → statement M
+receive-step-spec =
     tie.close
     (tie.spec
     header-requires

@@ -6,8 +6,8 @@ use native.Mathlib.Omega.{arith}
 use Rattle.model.specs.Records.{bytesOf, fieldBytes}
 use Rattle.model.proofs.Spaces.{put-behind}
 use borrow.Author.Needs.{needs}
-use Rattle.writer.proofs.put.receive_error_record.Statement.{statement}
-use Rattle.writer.proofs.put.receive_error_record.Tie as tie
+use Rattle.writer.proofs.put.receive_error_step.Statement.{statement}
+use Rattle.writer.proofs.put.receive_error_step.Tie as tie
 
 header-requires : tie.Need-header-requires
 header-requires c κs = search needs
@@ -50,8 +50,8 @@ returns c =
     let one = put-behind (10 ∷ bytesOf 2 2) (bytesOf 1 (a .code)) s (h .last .1 .1 .0) (p .last .1 .0) 3 refl (omega (arith, c .before .before .before .before .before .before .before .before .before .before .before .before .before .pre)) (h .ensures) (p .ensures) in
     put-behind ((10 ∷ bytesOf 2 2) ++ bytesOf 1 (a .code)) (bytesOf 1 (a .by)) s _ (q .last .1 .0) 4 refl (omega (arith, c .before .before .before .before .before .before .before .before .before .before .before .before .before .pre)) one (q .ensures)
 
-pub receive-error-record-spec : {M : Type 1} → statement M
-receive-error-record-spec =
+pub receive-error-step-spec : {M : Type 1} → statement M
+receive-error-step-spec =
     tie.close
     (tie.spec
     header-requires

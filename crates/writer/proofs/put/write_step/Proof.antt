@@ -6,8 +6,8 @@ use native.Mathlib.Omega.{arith}
 use Rattle.model.specs.Records.{bytesOf, fieldBytes}
 use Rattle.model.proofs.Spaces.{put-behind}
 use borrow.Author.Needs.{needs}
-use Rattle.writer.proofs.put.write_record.Statement.{statement}
-use Rattle.writer.proofs.put.write_record.Tie as tie
+use Rattle.writer.proofs.put.write_step.Statement.{statement}
+use Rattle.writer.proofs.put.write_step.Tie as tie
 
 header-requires : tie.Need-header-requires
 header-requires c κs = search needs
@@ -50,8 +50,8 @@ returns c =
     let one = put-behind (3 ∷ bytesOf 2 6) (bytesOf 2 (a .offset)) s (h .last .1 .1 .0) (p .last .1 .0) 3 refl (omega (arith, c .before .before .before .before .before .before .before .before .before .before .before .before .before .pre)) (h .ensures) (p .ensures) in
     put-behind ((3 ∷ bytesOf 2 6) ++ bytesOf 2 (a .offset)) (bytesOf 4 (a .w)) s _ (q .last .1 .0) 5 refl (omega (arith, c .before .before .before .before .before .before .before .before .before .before .before .before .before .pre)) one (q .ensures)
 
-pub write-record-spec : {M : Type 1} → statement M
-write-record-spec =
+pub write-step-spec : {M : Type 1} → statement M
+write-step-spec =
     tie.close
     (tie.spec
     header-requires
