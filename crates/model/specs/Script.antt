@@ -32,7 +32,8 @@ number32 b i = number16 b i + number16 b (i + 2) * 65536
 abbrev pub isTag : ℕ → Bool
 isTag t = leb 1 t && leb t 10
 
--- how many bytes each number of a tag's body has; eight data bytes are the two words of the frame
+-- how many bytes each number of a tag's body has. 2: offset; 3: offset, word; 5: bit times; 8: result; 9: identifier word, length code,
+-- data as two words; 10: error code, step
 abbrev pub bodyWidths : ℕ → List ℕ
 bodyWidths t =
     pick (eqb t 2) (2 ∷ [])
