@@ -7,6 +7,7 @@ use Prim.Native.Nat.{ℕ, _+_, _-_}
 use lib.Dec.{eqb}
 use lib.ListN.{length, take, drop}
 use Rattle.model.specs.Base.{pick, one}
+use Rattle.model.specs.Replies.{answerOf}
 use Rattle.model.specs.Script.{recordAt, replyOf, overwritten, stops}
 use Rattle.model.specs.Step.{step}
 use Rattle.model.specs.declared.Answer.{Answer}
@@ -15,15 +16,11 @@ use Rattle.model.specs.declared.Core.{Core}
 use Rattle.model.specs.declared.Replay.{Replay}
 use Rattle.model.specs.declared.Replayed.{Replayed}
 use Rattle.model.specs.declared.Step.{Step}
-use Rattle.model.specs.declared.Stepped.{Stepped}
 use Rattle.writes.specs.Places.{changed}
 use Rattle.script.specs.OneWay.{coreReplayed}
 use Rattle.script.specs.declared.CoreReplayed.{CoreReplayed}
 use Rattle.bench.specs.declared.Progress.{Progress}
 use Rattle.bench.specs.declared.Recorded.{Recorded}
-
-abbrev pub answerOf : Stepped → Answer
-answerOf a = record { code = a .code; lines = a .lines; word = a .word }
 
 -- a step taken on a lent controller z: the answer, and the controller afterwards
 abbrev pub Taken : Controller → Step → Answer → Controller → Type 0

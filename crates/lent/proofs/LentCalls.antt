@@ -41,7 +41,8 @@ use Rattle.model.proofs.Controller as T
 use Rattle.model.proofs.Controller.Laws as T′
 use Rattle.model.proofs.Stepped as S
 use Rattle.model.proofs.Stepped.Laws as S′
-use Rattle.bench.specs.Lent.{answerOf, Taken}
+use Rattle.model.specs.Replies.{answerOf}
+use Rattle.bench.specs.Lent.{Taken}
 use Rattle.bench.proofs.NamedCalls as calls
 use Rattle.bench.proofs.Single.{Single, row, of-struct}
 use Rattle.bench.proofs.Told.{said-only, told}

@@ -89,6 +89,11 @@ swapped : (b : Bool) → _≡_ {A = ℕ} (pick (not b) 0 5) (pick b 5 0)
 swapped true = refl
 swapped false = refl
 
+-- 9, then 5
+code-order : (e : steps.Step) (space : ℕ) → StepRange e → writeCode e space ≡ pick (ltb space (3 + bodyLength (stepTag e))) 9 (pick (tooLarge e) 5 0)
+unfolding writeCode
+code-order e space h = rw (record-length e, fit-large e h, swapped (tooLarge e))
+
 -- code 0: there is space, and every number fits
 pub accepted : (e : steps.Step) (space : ℕ) → eqb (writeCode e space) 0 ≡ true → (length (recordOf e) ≤ space) × (fit (stepFields e) ≡ true)
 unfolding writeCode
@@ -105,9 +110,9 @@ unfolding recordWritten
 whole-record e space h = rw h
 
 pub write-codes : (e : steps.Step) (space : ℕ) → WriteCodes e space
-unfolding written writeCode recordWritten
+unfolding written recordWritten
 write-codes e space = record {
-  code = λ h. rw (record-length e, fit-large e h, swapped (tooLarge e));
+  code = code-order e space;
   bytes = pick-both length (eqb (writeCode e space) 0) (recordOf e) [] (3 + bodyLength (stepTag e)) 0 (record-length e) refl;
   whole = whole-record e space;
   nothing = λ h l. rw h;

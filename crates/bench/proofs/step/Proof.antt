@@ -61,7 +61,8 @@ use Rattle.bench.proofs.with_core.Symbol as core-def
 use Rattle.bench.proofs.with_core.Met as core-thm
 use Rattle.bench.proofs.with_bank_word.Symbol as word-def
 use Rattle.bench.proofs.with_bank_word.Met as word-thm
-use Rattle.bench.specs.Lent.{answerOf, withCore, withBankWord}
+use Rattle.model.specs.Replies.{answerOf}
+use Rattle.bench.specs.Lent.{withCore, withBankWord}
 use Rattle.bench.proofs.Single.{of-struct}
 use Rattle.bench.proofs.StepWalk as stepping
 use Rattle.bench.proofs.Told.{said-only, told}
