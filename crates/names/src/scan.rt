@@ -1,0 +1,201 @@
+// Words, letters and numbers in a row of bytes. Where a place is past the end, a blank is read.
+ghost use mathlib.Core.Path.{_≡_};
+ghost use Prim.Native.Nat.{_-_};
+ghost use Rattle.names.specs.Scan as scan;
+
+pub enum Class {
+    Blank,
+    NoBlank,
+    HexDigit,
+    Digit,
+    NoDigit,
+}
+
+// A word from one place up to another, with its first decimal digits from `digits` up to `rest`.
+pub struct Word {
+    pub from: usize,
+    pub digits: usize,
+    pub rest: usize,
+    pub to: usize,
+}
+
+pub fn byte_at(s: &[u8], i: usize) -> u8
+    ensures { λ r. ⌜ r ≡ scan.byteAt (now (s .entry)) i ⌝ }
+{
+    if i < s.len() {
+        return s[i];
+    }
+    32
+}
+
+fn is_blank(c: u8) -> bool
+    ensures { λ r. ⌜ r ≡ scan.isBlank c ⌝ }
+{
+    (c == 32) | (c == 9) | (c == 13)
+}
+
+// The value of a hex digit, and 16 for any other byte.
+pub fn digit_of(c: u8) -> u8
+    ensures { λ r. ⌜ r ≡ scan.digitOf c ⌝ }
+{
+    if (48 <= c) & (c <= 57) {
+        return c - 48;
+    }
+    if (65 <= c) & (c <= 70) {
+        return c - 55;
+    }
+    if (97 <= c) & (c <= 102) {
+        return c - 87;
+    }
+    16
+}
+
+fn is_of(k: Class, c: u8) -> bool
+    ensures { λ r. ⌜ r ≡ scan.isOf k c ⌝ }
+{
+    match k {
+        Class::Blank => is_blank(c),
+        Class::NoBlank => !is_blank(c),
+        Class::HexDigit => digit_of(c) < 16,
+        Class::Digit => digit_of(c) < 10,
+        Class::NoDigit => 10 <= digit_of(c),
+    }
+}
+
+// The end of the bytes of a class that begin at a place.
+pub fn run_end(s: &[u8], from: usize, k: Class) -> usize
+    ensures { λ r. ⌜ r ≡ scan.runEnd (now (s .entry)) from k ⌝ }
+{
+    let mut i = from;
+    while i < s.len() {
+        if !is_of(k, byte_at(s, i)) {
+            return i;
+        }
+        i += 1;
+    }
+    i
+}
+
+// ---- numbers
+
+// A number with one digit more; 2^32 is no number of 32 bits.
+fn with_digit(a: u64, c: u8, hex: bool) -> u64
+    ensures { λ r. ⌜ r ≡ scan.withDigit a c hex ⌝ }
+{
+    let base = bits::pick_u8(hex, 16, 10);
+    let d = digit_of(c);
+    if (base <= d) | (4294967296 <= a) {
+        return 4294967296;
+    }
+    let b = a * (base as u64) + (d as u64);
+    if b < 4294967296 {
+        return b;
+    }
+    4294967296
+}
+
+// The number whose digits stand from one place up to another.
+pub fn value(s: &[u8], from: usize, to: usize, hex: bool) -> u64
+    ensures { λ r. ⌜ r ≡ scan.value (now (s .entry)) from to hex ⌝ }
+{
+    let mut a: u64 = 0;
+    let mut i = from;
+    while i < to {
+        a = with_digit(a, byte_at(s, i), hex);
+        i += 1;
+    }
+    a
+}
+
+// ---- words
+
+// How far one place is behind another.
+fn distance(from: usize, to: usize) -> usize
+    ensures { λ r. ⌜ r ≡ to - from ⌝ }
+{
+    if to <= from {
+        return 0;
+    }
+    to - from
+}
+
+// Byte k of what stands from one place up to another; behind it a blank.
+fn letter_of(s: &[u8], from: usize, to: usize, k: usize) -> u8
+    ensures { λ r. ⌜ r ≡ scan.letterOf (now (s .entry)) from to k ⌝ }
+{
+    if distance(from, to) <= k {
+        return 32;
+    }
+    byte_at(s, std::num::wrapping_add_usize(from, k))
+}
+
+// The first word at or behind a place; empty at a comment and at the end.
+pub fn word_at(s: &[u8], place: usize) -> Word
+    ensures { λ r. ⌜ r ≡ scan.wordAt (now (s .entry)) place ⌝ }
+{
+    let from = run_end(s, place, Class::Blank);
+    if byte_at(s, from) == b'#' {
+        return plain(from, from);
+    }
+    let to = run_end(s, from, Class::NoBlank);
+    let digits = bits::least(run_end(s, from, Class::NoDigit), to);
+    Word {
+        from: from,
+        digits: digits,
+        rest: run_end(s, digits, Class::Digit),
+        to: to,
+    }
+}
+
+// A word whose digits are not told apart from its letters.
+pub fn plain(from: usize, to: usize) -> Word
+    ensures { λ r. ⌜ r ≡ scan.plain from to ⌝ }
+{
+    Word {
+        from: from,
+        digits: to,
+        rest: to,
+        to: to,
+    }
+}
+
+// Letter k of a word, with a percent sign for its digits; behind its end a blank.
+fn letter(s: &[u8], w: Word, k: usize) -> u8
+    ensures { λ r. ⌜ r ≡ scan.letter (now (s .entry)) w k ⌝ }
+{
+    if w.rest <= w.digits {
+        return letter_of(s, w.from, w.to, k);
+    }
+    let n = distance(w.from, w.digits);
+    if k < n {
+        return letter_of(s, w.from, w.digits, k);
+    }
+    if k == n {
+        return b'%';
+    }
+    letter_of(s, w.rest, w.to, k - n - 1)
+}
+
+// Byte k of the eight at a place; behind them a blank.
+pub(crate) fn cell_letter(t: &[u8], at: usize, k: usize) -> u8
+    ensures { λ r. ⌜ r ≡ scan.cellLetter (now (t .entry)) at k ⌝ }
+{
+    if 8 <= k {
+        return 32;
+    }
+    byte_at(t, std::num::wrapping_add_usize(at, k))
+}
+
+// Whether a word is the name in the eight bytes at a place of a table.
+pub fn same(s: &[u8], w: Word, t: &[u8], at: usize) -> bool
+    ensures { λ r. ⌜ r ≡ scan.same (now (s .entry)) w (now (t .entry)) at ⌝ }
+{
+    let mut k: usize = 0;
+    while k < 9 {
+        if letter(s, w, k) != cell_letter(t, at, k) {
+            return false;
+        }
+        k += 1;
+    }
+    true
+}
