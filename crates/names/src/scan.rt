@@ -110,7 +110,7 @@ pub fn value(s: &[u8], from: usize, to: usize, hex: bool) -> u64
 // ---- words
 
 // How far one place is behind another.
-fn distance(from: usize, to: usize) -> usize
+pub fn distance(from: usize, to: usize) -> usize
     ensures { λ r. ⌜ r ≡ to - from ⌝ }
 {
     if to <= from {
