@@ -1,45 +1,47 @@
+use mathlib.Core.Bool.{false}
+use mathlib.Core.Path.{_≡_}
+use Prim.Native.Nat.{ℕ, _<_}
+use native.Mathlib.Omega.{arith}
+use lib.Dec.{eqb, ltb}
+use Rattle.model.proofs.Choices.{or-l, or-r}
+use Rattle.names.specs.Rows as rows
+use borrow.Author.Tests.{ltb-false, eqb-false, eq-eqb, ne-eqb}
 use borrow.Author.Needs.{needs}
 use Rattle.names.proofs.rows.index_at.Statement.{statement}
 use Rattle.names.proofs.rows.index_at.Tie as tie
-use Rattle.names.proofs.rows.index_at.Reads as reads
-use Rattle.names.proofs.rows.index_at.Lts as lts
-use Rattle.names.proofs.rows.number.Reads as number-reads
 
--- src/rows.rt:146:9
 number-requires : tie.Need-number-requires
 number-requires c κs = search needs
 
--- src/rows.rt:147:9
 number-requires-2 : tie.Need-number-requires-2
 number-requires-2 c κs = search needs
 
--- src/rows.rt:148:9
 number-requires-3 : tie.Need-number-requires-3
 number-requires-3 c κs = search needs
 
--- src/rows.rt:150:9
 returns : tie.Need-returns
-returns c = ?
+unfolding rows.indexAt
+returns c = simp (c .if1 .taken, ← (c .before .number3 .ensures), ← (c .before .before .number2 .ensures), ← (c .before .before .before .number .ensures))
 
--- src/rows.rt:152:13
 sub-d : tie.Need-sub-d
-sub-d c = ?
+sub-d c = omega (arith, ltb-false (c .before .before .before .before .before .args .offset) (c .before .before .before .number .result) (or-l _ _ (c .if1 .left)))
 
--- src/rows.rt:153:8
+not-zero : (n : ℕ) → eqb n 0 ≡ false → 0 < n
+not-zero n h = let z = eqb-false n 0 h in omega arith
+
 rem-if2 : tie.Need-rem-if2
-rem-if2 c = ?
+rem-if2 c = not-zero (c .before .before .number2 .result) (or-r (ltb (c .before .before .before .before .before .args .offset) (c .before .before .before .number .result)) _ (c .if1 .left))
 
--- src/rows.rt:154:9
 returns-2 : tie.Need-returns-2
-returns-2 c = ?
+unfolding rows.indexAt
+returns-2 c = simp (ne-eqb _ _ (c .if2 .taken), c .before .if1 .left, ← (c .before .before .number3 .ensures), ← (c .before .before .before .number2 .ensures), ← (c .before .before .before .before .number .ensures))
 
--- src/rows.rt:156:5
 div-result : tie.Need-div-result
-div-result c = ?
+div-result c = not-zero (c .before .before .before .number2 .result) (or-r (ltb (c .before .before .before .before .before .before .args .offset) (c .before .before .before .before .number .result)) _ (c .before .if1 .left))
 
--- src/rows.rt:143:1
 returns-3 : tie.Need-returns-3
-returns-3 c = ?
+unfolding rows.indexAt
+returns-3 c = simp (eq-eqb _ _ (c .if2 .left), c .before .if1 .left, ← (c .before .before .number3 .ensures), ← (c .before .before .before .number2 .ensures), ← (c .before .before .before .before .number .ensures))
 
 pub index-at-spec : {M : Type 1} → statement M
 index-at-spec =

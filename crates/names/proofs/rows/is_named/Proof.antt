@@ -1,31 +1,25 @@
+use borrow.Author.Tests.{not-true, not-false}
+use Rattle.names.specs.Rows as rows
 use borrow.Author.Needs.{needs}
 use Rattle.names.proofs.rows.is_named.Statement.{statement}
 use Rattle.names.proofs.rows.is_named.Tie as tie
-use Rattle.names.proofs.rows.is_named.Reads as reads
-use Rattle.names.proofs.rows.is_named.Lts as lts
-use Rattle.names.proofs.rows.belongs.Reads as belongs-reads
-use Rattle.names.proofs.rows.name_at.Reads as name-at-reads
-use Rattle.names.proofs.scan.same.Reads as same-reads
 
--- src/rows.rt:82:23
 name-at-requires : tie.Need-name-at-requires
 name-at-requires c κs = search needs
 
--- src/rows.rt:82:9
 same-requires : tie.Need-same-requires
 same-requires c κs = search needs
 
--- src/rows.rt:83:9
 returns : tie.Need-returns
-returns c = ?
+unfolding rows.isNamed
+returns c = simp (not-true (c .before .same .result) (c .if1 .taken), ← (c .before .same .ensures), ← (c .before .before .name-at .ensures))
 
--- src/rows.rt:85:5
 belongs-requires : tie.Need-belongs-requires
 belongs-requires c κs = search needs
 
--- src/rows.rt:79:1
 returns-2 : tie.Need-returns-2
-returns-2 c = ?
+unfolding rows.isNamed
+returns-2 c = simp (c .belongs .ensures, not-false (c .before .before .same .result) (c .before .if1 .left), ← (c .before .before .same .ensures), ← (c .before .before .before .name-at .ensures))
 
 pub is-named-spec : {M : Type 1} → statement M
 is-named-spec =
