@@ -1,7 +1,7 @@
 -- The definition over all words of a line, one word on and at its end: what the loop needs to carry it.
 use mathlib.Core.Path.{_≡_, ap}
 use mathlib.Core.List.{List}
-use Prim.Native.Nat.{ℕ, suc, _+_, _<_, _≤_}
+use Prim.Native.Nat.{ℕ, _-_, suc, _+_, _<_, _≤_}
 use native.Mathlib.Omega.{arith}
 use Rattle.lines.specs.Parts.{wordsOn, oneMore}
 use Rattle.lines.specs.declared.parts.Kind.{Kind}

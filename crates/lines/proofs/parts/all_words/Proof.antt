@@ -1,6 +1,6 @@
 -- The invariant: the definition, from the words so far on, gives what it gives from the start.
 use mathlib.Core.Path.{_≡_, sym, _∙_}
-use Prim.Native.Nat.{_≤_}
+use Prim.Native.Nat.{_-_, _≤_}
 use native.Mathlib.Omega.{arith}
 use borrow.Author.Needs.{needs}
 use Rattle.lines.specs.Parts.{wordsOn, allWords}

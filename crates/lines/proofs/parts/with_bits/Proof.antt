@@ -1,6 +1,6 @@
 use native.Mathlib.Omega.{arith}
 use Rattle.lines.proofs.Powers.{fitting}
-use Prim.Native.Nat.{_^_, _<_}
+use Prim.Native.Nat.{_-_, _^_, _<_}
 use Rattle.lines.specs.Parts.{withBits}
 use borrow.Author.Needs.{needs}
 use Rattle.lines.proofs.parts.with_bits.Statement.{statement}
