@@ -68,10 +68,11 @@ pub fn run(words: &[&str]) -> Status {
             choose_variant(options)?;
             write_script()
         }
-        ["text", options @ ..] => {
-            choose_variant(options)?;
-            write_text()
+        ["text", "--wrong", variant] => {
+            choose_variant(&["--wrong", variant])?;
+            write_text(&[])
         }
+        ["text", files @ ..] => write_text(files),
         ["expects", options @ ..] => {
             choose_variant(options)?;
             check_expectations()
@@ -412,14 +413,21 @@ fn write_script() -> Status {
     Ok(READ_TO_THE_END)
 }
 
-fn write_text() -> Status {
-    let mut output = Output::new()?;
+/// The text of each file, or of standard input.
+fn write_text(files: &[&str]) -> Status {
+    let mut scripts = Vec::new();
+    for file in files {
+        scripts.push(std::fs::read(file).map_err(|error| format!("{file}: {error}"))?);
+    }
+    if files.is_empty() {
+        scripts.push(standard_input()?);
+    }
     let mut lines = String::new();
-    for line in text_writer::write(&standard_input()?) {
+    for line in scripts.iter().flat_map(|script| text_writer::write(script)) {
         lines += &line;
         lines.push('\n');
     }
-    output.write(lines.as_bytes());
+    Output::new()?.write(lines.as_bytes());
     Ok(READ_TO_THE_END)
 }
 

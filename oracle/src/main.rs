@@ -50,7 +50,7 @@ const USAGE: &str = "usage:
   oracle encode                          requests to write a record on standard input, answers on standard output
   oracle replies                         replies on standard input, one line for each
   oracle write                           a lesson's text on standard input, the bytes of its script on standard output
-  oracle text                            script on standard input, a lesson's text on standard output
+  oracle text [FILE..]                   script on standard input, or in files, a lesson's text on standard output
   oracle expects                         a lesson's text on standard input; 1 if a step answers otherwise than expected
   oracle generate SEED RECORDS [KIND]    a script by seed
   oracle malformed SEED COUNT DIR        COUNT broken scripts as files in DIR
