@@ -3,7 +3,7 @@
 use crate::lesson_lines::{systematic_lines, LineWords, Scribe};
 use crate::rng::Rng;
 use crate::text_reader::{read_line, Line};
-use crate::words::LONGEST_LINE;
+use crate::words::{Words, LONGEST_LINE};
 use std::fs;
 
 /// `count` bad lines, each with its line feed. The first ones are the same for
@@ -29,9 +29,16 @@ pub fn bad_lines(seed: u64, count: u64) -> Vec<u8> {
     lines.iter().flat_map(|line| line.iter().copied().chain([b'\n'])).collect()
 }
 
-/// In a file of its own. A `repeat` that is alone there lacks only `done`.
+/// In a file of its own, by one fault. A `repeat` that is alone there lacks only
+/// `done`; a `done` with more words would have two faults.
 fn is_bad(line: &[u8]) -> bool {
-    !line.contains(&b'\n') && matches!(read_line(line), Err(_) | Ok(Line::Done))
+    let starts_with_done =
+        Words::of(line).map_or(false, |mut words| words.next().map_or(false, |word| word.is("done")));
+    match read_line(line) {
+        _ if line.contains(&b'\n') => false,
+        Ok(line) => line == Line::Done,
+        Err(_) => !starts_with_done,
+    }
 }
 
 /// A line with one change, to a word or to a byte.
