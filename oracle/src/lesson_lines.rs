@@ -40,18 +40,20 @@ pub fn systematic_lines() -> Vec<LineWords> {
 }
 
 fn plain_lines() -> Vec<&'static str> {
-    let text = "reset/idle/activity/start/bits 0/bits 1/bits 65535/bits 0xFFFF/bits 0xabc/bits 007/end 0xFf\
-        /error 0 0/error 255 255/error 1 8/error 0x6 0x01/read 0/read 0x0/read 2/read 65535/read 0xffff/read 0x2B0\
+    let text = "reset/idle/activity/start/bits 0/bits 1/bits 65535/bits 0xFFFF/bits 0xabc/bits 007/end 0xFf/error 0 0\
+        /error 255 255/error 1 8/error 0x6 0x01/read 0/read 0x0/read 2/read 65535/read 0xffff/read 0x2B0\
         /write 0x20 0/write 65535 4294967295/write 0x2b0 0xFFFFFFFF/write 0x3 00000000000000000000000000000001\
-        /frame 123#/frame 000#/frame 7FF#00/frame 7ff#1122334455667788/frame 00000000#/frame 1FFFFFFF#0102030405060708\
-        /frame 0aBcDeF1#aAbB/frame 123#R/frame 123#R0/frame 123#R5/frame 123#R8/frame 12345678#R/frame 12345678#R8\
-        /frame 123#R8_9/frame 123#R8_f/frame 12345678#R8_B/frame 123#1122334455667788_9/frame 00000123#1122334455667788_f\
-        /frame 123#1122334455667788_F/frame 123#0000000000000000/frame 000007FF#11/frame 3bc#/frame 5ea#R8_a\
-        /bytes 01 00 00/bytes 010000/bytes 04 0000/bytes 0202001c00/bytes 02 02 00 1C 00/bytes 0a 02 00 Ff fF\
-        /expect 0/expect 3073/expect 0x00000C01/expect 0xffffffff/expect refused 1/expect refused 255/expect refused 0x0b\
-        /expect lines none/expect lines TX/expect lines FIFO0/expect lines FIFO1/expect lines SCE/expect lines SCE FIFO1 FIFO0 TX\
-        /expect 0x1 lines none/expect 5 lines TX FIFO1/expect refused 2 lines SCE/expect refused 11 lines none\
-        /repeat 3/idle/expect 0/done/repeat 0/idle/done/repeat 2/repeat 0x2/start/done/end good/done/repeat 1/done";
+        /frame 123#/frame 000#/frame 7FF#00/frame 7ff#1122334455667788/frame 00000000#\
+        /frame 1FFFFFFF#0102030405060708/frame 0aBcDeF1#aAbB/frame 123#R/frame 123#R0/frame 123#R5/frame 123#R8\
+        /frame 12345678#R/frame 12345678#R8/frame 123#R8_9/frame 123#R8_f/frame 12345678#R8_B\
+        /frame 123#1122334455667788_9/frame 00000123#1122334455667788_f/frame 123#1122334455667788_F\
+        /frame 123#0000000000000000/frame 000007FF#11/frame 3bc#/frame 5ea#R8_a/bytes 01 00 00/bytes 010000\
+        /bytes 04 0000/bytes 0202001c00/bytes 02 02 00 1C 00/bytes 0a 02 00 Ff fF/expect 0/expect 3073\
+        /expect 0x00000C01/expect 0xffffffff/expect refused 1/expect refused 255/expect refused 0x0b\
+        /expect lines none/expect lines TX/expect lines FIFO0/expect lines FIFO1/expect lines SCE\
+        /expect lines SCE FIFO1 FIFO0 TX/expect 0x1 lines none/expect 5 lines TX FIFO1/expect refused 2 lines SCE\
+        /expect refused 11 lines none/repeat 3/idle/expect 0/done/repeat 0/idle/done/repeat 2/repeat 0x2/start/done\
+        /end good/done/repeat 1/done";
     text.split('/').collect()
 }
 
@@ -202,7 +204,7 @@ impl Scribe {
             self.opened = self.text.len();
         }
         let rounds: u32 = self.open.iter().map(|&count| count.max(1)).product();
-        let count = self.rng.below(5) as u32;
+        let count = if self.rng.percent(5) { 0 } else { self.rng.within(1, 4) as u32 };
         let count = if rounds * count.max(1) > MOST_ROUNDS { 1 } else { count };
         let number = self.spelled(count);
         self.line_of(&format!("repeat {number}"));

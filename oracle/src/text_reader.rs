@@ -119,22 +119,31 @@ fn read_register(words: &mut Words) -> Result<u16, LineFault> {
 /// A number, or fields, or a number with fields behind it.
 fn read_value(offset: u16, words: &mut Words) -> Result<u32, LineFault> {
     let register = Register::at(offset);
-    let allowed = allowed_fields(register);
-    let first = words.peek();
-    let whole = match first.filter(Word::is_number) {
-        Some(word) => Some(number_within(word, "a number up to 4294967295", 0, u32::MAX)?),
-        None => None,
-    };
-    if whole.is_some() {
-        words.next();
-    } else if first.is_none() {
-        here!();
-        words.needed(&format!("a number{allowed}"))?;
+    match words.peek() {
+        None => {
+            here!();
+            words.needed(&format!("a number{}", allowed_fields(register))).map(|_| 0)
+        }
+        Some(word) if word.is_number() => {
+            words.next();
+            let number = number_within(word, "a number up to 4294967295", 0, u32::MAX)?;
+            read_fields(register, Some(number), words)
+        }
+        Some(_) => read_fields(register, None, words),
     }
+}
+
+/// Fields up to the line's end. Behind a number each must have its value there.
+fn read_fields(register: Option<Register>, whole: Option<u32>, words: &mut Words) -> Result<u32, LineFault> {
     let (mut word, mut given) = (whole.unwrap_or_else(|| unnamed_bits(register)), 0);
     while let Some(name) = words.next() {
+        let first = whole.is_none() && given == 0;
         let field = register.and_then(|register| field_named(register, name.bytes));
-        let field = field.ok_or_else(|| name.refuse(&format!("the end of the line{allowed}")))?;
+        let field = field.ok_or_else(|| {
+            here!();
+            let else_allowed = if first { "a number" } else { "the end of the line" };
+            name.refuse(&format!("{else_allowed}{}", allowed_fields(register)))
+        })?;
         if given & field.mask() != 0 && !overlap_taken(given, &field) {
             here!();
             return Err(name.refuse("each bit once"));
@@ -142,12 +151,13 @@ fn read_value(offset: u16, words: &mut Words) -> Result<u32, LineFault> {
         given |= field.mask();
         let number = read_field(&field, words)?;
         let kept = made(Mistake::FieldsBehindNumberNotCompared) || made(Mistake::FieldsBehindNumberAreSet);
-        if whole.map_or(false, |whole| field.of(whole) != number) && !kept {
-            here!();
-            return Err(name.refuse("fields that have their number in the number before them"));
-        }
-        if whole.is_none() || made(Mistake::FieldsBehindNumberAreSet) {
-            word = set_field(&field, word, number);
+        match whole {
+            Some(whole) if field.of(whole) != number && !kept => {
+                here!();
+                return Err(name.refuse(&format!("{} {}, as in the number before it", field.name, field.of(whole))));
+            }
+            Some(_) if !made(Mistake::FieldsBehindNumberAreSet) => {}
+            _ => word = set_field(&field, word, number),
         }
     }
     Ok(word)

@@ -80,8 +80,9 @@ fn every_step_gives_its_record() {
 
 #[test]
 fn the_example_of_the_grammar() {
-    let text = "# a mailbox is sent\nreset\nwrite MCR INRQ DBF              # fields by name: bits 0 and 16\nexpect 0 lines none\n\
-        write BTR BRP 5 TS1 12 TS2 1    # fields with their numbers\nread MSR\nexpect 0x00000C01\n";
+    let text = "# a mailbox is sent\nreset\nwrite MCR INRQ DBF              # fields by name: bits 0 and 16\n\
+        expect 0 lines none\nwrite BTR BRP 5 TS1 12 TS2 1    # fields with their numbers\nread MSR\n\
+        expect 0x00000C01\n";
     let mut expected = vec![1, 0, 0, 3, 6, 0, 0, 0, 1, 0, 1, 0];
     expected.extend([3, 6, 0, 0x1C, 0, 5, 0, 0x1C, 0, 2, 2, 0, 4, 0]);
     assert_eq!(bytes(text), expected);
