@@ -1,3 +1,6 @@
 pub mod Ranges
 pub mod Loops
 pub mod Lookups
+pub mod ToldNames
+pub mod ToldNumbers
+pub mod ToldBits

@@ -52,7 +52,7 @@ find-along t s w g row zero h = refl
 find-along t s w g row (suc n) h =
     let m : min row 163 * 29 + 8 ≡ row * 29 + 8 = omega arith in
     let e : (row + 1) * 29 ≡ row * 29 + 29 = omega arith in
-    rw (m, same-along s w t (row * 29 + 8) 0 9 (omega arith), find-along t s w g (row + 1) n (omega arith), drop-drop, drop-drop, e)
+    rw (m, same-along s w t (row * 29 + 8) 0 9 (omega arith), find-along t s w g (row + 1) n (omega arith), drop-drop 8 (row * 29) t, drop-drop 29 (row * 29) t, e)
 
 -- ---- the whole lookup
 

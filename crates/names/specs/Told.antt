@@ -215,11 +215,23 @@ abbrev pub isNoName : Group → String → Bool
 isNoName g x = eqb (lookedUp (bytes x) g .row) none
 
 -- no names: a number too large, with a zero in front or none at all; a letter more or fewer; small letters; another group's name
+abbrev pub noRegisters : List String
+noRegisters = "TI3R" ∷ "TI%R" ∷ "TIR" ∷ "TI00R" ∷ "RI2R" ∷ "F14R1" ∷ "F01R1" ∷ "F0R3" ∷ "MCRX" ∷ "MC" ∷ "mcr" ∷ "INRQ" ∷ "bxCAN" ∷ []
+
+abbrev pub noControls : List String
+noControls = "INRQ2" ∷ "inrq" ∷ "INAK" ∷ "MCR" ∷ []
+
+abbrev pub noModes : List String
+noModes = "FBM14" ∷ "FBM" ∷ "FBM%" ∷ "FBM00" ∷ "FSC0" ∷ []
+
+abbrev pub noSteps : List String
+noSteps = "activityx" ∷ "activit" ∷ "Reset" ∷ "good" ∷ []
+
 pub record NoNames : Type 0 where
-  pub registers : allOf (isNoName Registers) ("TI3R" ∷ "TI%R" ∷ "TIR" ∷ "TI00R" ∷ "RI2R" ∷ "F14R1" ∷ "F01R1" ∷ "F0R3" ∷ "MCRX" ∷ "MC" ∷ "mcr" ∷ "INRQ" ∷ "bxCAN" ∷ []) ≡ true
-  pub control : allOf (isNoName (Fields (rowOf "MCR"))) ("INRQ2" ∷ "inrq" ∷ "INAK" ∷ "MCR" ∷ []) ≡ true
-  pub modes : allOf (isNoName (Fields (rowOf "FM1R"))) ("FBM14" ∷ "FBM" ∷ "FBM%" ∷ "FBM00" ∷ "FSC0" ∷ []) ≡ true
-  pub steps : allOf (isNoName Steps) ("activityx" ∷ "activit" ∷ "Reset" ∷ "good" ∷ []) ≡ true
+  pub registers : allOf (isNoName Registers) noRegisters ≡ true
+  pub control : allOf (isNoName (Fields (rowOf "MCR"))) noControls ≡ true
+  pub modes : allOf (isNoName (Fields (rowOf "FM1R"))) noModes ≡ true
+  pub steps : allOf (isNoName Steps) noSteps ≡ true
 
 -- ---- numbers
 
