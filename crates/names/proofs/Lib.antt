@@ -4,3 +4,4 @@ pub mod Lookups
 pub mod ToldNames
 pub mod ToldNumbers
 pub mod ToldBits
+pub mod ToldRegisters

@@ -39,7 +39,8 @@ module _ (n : ℕ) (h : n < 2 ^ 32) where
     one-more true (n / 16 ^ 4) (n / 16 ^ 3 % 16) (n / 16 ^ 3) (omega arith) (omega arith) (omega arith) (omega arith),
     one-more true (n / 16 ^ 3) (n / 16 ^ 2 % 16) (n / 16 ^ 2) (omega arith) (omega arith) (omega arith) (omega arith),
     one-more true (n / 16 ^ 2) (n / 16 % 16) (n / 16) (omega arith) (omega arith) (omega arith) (omega arith),
-    one-more true (n / 16) (n % 16) n (omega arith) (omega arith) (omega arith) (omega arith))
+    one-more true (n / 16) (n % 16) n (omega arith) (omega arith) (omega arith) (omega arith),
+  )
 
   decimal-read : value (decimalDigits n) 0 10 false ≡ n
   unfolding value valueOn byteAt
@@ -53,7 +54,8 @@ module _ (n : ℕ) (h : n < 2 ^ 32) where
     one-more false (n / 10 ^ 4) (n / 10 ^ 3 % 10) (n / 10 ^ 3) (omega arith) (omega arith) (omega arith) (omega arith),
     one-more false (n / 10 ^ 3) (n / 10 ^ 2 % 10) (n / 10 ^ 2) (omega arith) (omega arith) (omega arith) (omega arith),
     one-more false (n / 10 ^ 2) (n / 10 % 10) (n / 10) (omega arith) (omega arith) (omega arith) (omega arith),
-    one-more false (n / 10) (n % 10) n (omega arith) (omega arith) (omega arith) (omega arith))
+    one-more false (n / 10) (n % 10) n (omega arith) (omega arith) (omega arith) (omega arith),
+  )
 
 pub numbers : Numbers
 unfolding value valueOn byteAt digitOf withDigit bytes

@@ -154,21 +154,21 @@ layout r l = record { register = r; fields = l }
 abbrev pub manual : List Layout
 manual =
     layout "MCR" (
-      field "DBF" 16 1 ∷ field "RESET" 15 1 ∷ field "TTCM" 7 1 ∷ field "ABOM" 6 1 ∷ field "AWUM" 5 1 ∷ field "NART" 4 1 ∷ field "RFLM" 3 1 ∷
-      field "TXFP" 2 1 ∷ field "SLEEP" 1 1 ∷ field "INRQ" 0 1 ∷ []) ∷
+    field "DBF" 16 1 ∷ field "RESET" 15 1 ∷ field "TTCM" 7 1 ∷ field "ABOM" 6 1 ∷ field "AWUM" 5 1 ∷ field "NART" 4 1 ∷ field "RFLM" 3 1 ∷
+    field "TXFP" 2 1 ∷ field "SLEEP" 1 1 ∷ field "INRQ" 0 1 ∷ []) ∷
     layout "MSR" (
-      field "RX" 11 1 ∷ field "SAMP" 10 1 ∷ field "RXM" 9 1 ∷ field "TXM" 8 1 ∷ field "SLAKI" 4 1 ∷ field "WKUI" 3 1 ∷ field "ERRI" 2 1 ∷
-      field "SLAK" 1 1 ∷ field "INAK" 0 1 ∷ []) ∷
+    field "RX" 11 1 ∷ field "SAMP" 10 1 ∷ field "RXM" 9 1 ∷ field "TXM" 8 1 ∷ field "SLAKI" 4 1 ∷ field "WKUI" 3 1 ∷ field "ERRI" 2 1 ∷
+    field "SLAK" 1 1 ∷ field "INAK" 0 1 ∷ []) ∷
     layout "TSR" (
-      field "LOW2" 31 1 ∷ field "LOW1" 30 1 ∷ field "LOW0" 29 1 ∷ field "TME2" 28 1 ∷ field "TME1" 27 1 ∷ field "TME0" 26 1 ∷ field "CODE" 24 2 ∷
-      field "ABRQ2" 23 1 ∷ field "TERR2" 19 1 ∷ field "ALST2" 18 1 ∷ field "TXOK2" 17 1 ∷ field "RQCP2" 16 1 ∷
-      field "ABRQ1" 15 1 ∷ field "TERR1" 11 1 ∷ field "ALST1" 10 1 ∷ field "TXOK1" 9 1 ∷ field "RQCP1" 8 1 ∷
-      field "ABRQ0" 7 1 ∷ field "TERR0" 3 1 ∷ field "ALST0" 2 1 ∷ field "TXOK0" 1 1 ∷ field "RQCP0" 0 1 ∷ []) ∷
+    field "LOW2" 31 1 ∷ field "LOW1" 30 1 ∷ field "LOW0" 29 1 ∷ field "TME2" 28 1 ∷ field "TME1" 27 1 ∷ field "TME0" 26 1 ∷ field "CODE" 24 2 ∷
+    field "ABRQ2" 23 1 ∷ field "TERR2" 19 1 ∷ field "ALST2" 18 1 ∷ field "TXOK2" 17 1 ∷ field "RQCP2" 16 1 ∷
+    field "ABRQ1" 15 1 ∷ field "TERR1" 11 1 ∷ field "ALST1" 10 1 ∷ field "TXOK1" 9 1 ∷ field "RQCP1" 8 1 ∷
+    field "ABRQ0" 7 1 ∷ field "TERR0" 3 1 ∷ field "ALST0" 2 1 ∷ field "TXOK0" 1 1 ∷ field "RQCP0" 0 1 ∷ []) ∷
     layout "RF0R" (field "RFOM0" 5 1 ∷ field "FOVR0" 4 1 ∷ field "FULL0" 3 1 ∷ field "FMP0" 0 2 ∷ []) ∷
     layout "RF1R" (field "RFOM1" 5 1 ∷ field "FOVR1" 4 1 ∷ field "FULL1" 3 1 ∷ field "FMP1" 0 2 ∷ []) ∷
     layout "IER" (
-      field "SLKIE" 17 1 ∷ field "WKUIE" 16 1 ∷ field "ERRIE" 15 1 ∷ field "LECIE" 11 1 ∷ field "BOFIE" 10 1 ∷ field "EPVIE" 9 1 ∷ field "EWGIE" 8 1 ∷
-      field "FOVIE1" 6 1 ∷ field "FFIE1" 5 1 ∷ field "FMPIE1" 4 1 ∷ field "FOVIE0" 3 1 ∷ field "FFIE0" 2 1 ∷ field "FMPIE0" 1 1 ∷ field "TMEIE" 0 1 ∷ []) ∷
+    field "SLKIE" 17 1 ∷ field "WKUIE" 16 1 ∷ field "ERRIE" 15 1 ∷ field "LECIE" 11 1 ∷ field "BOFIE" 10 1 ∷ field "EPVIE" 9 1 ∷ field "EWGIE" 8 1 ∷
+    field "FOVIE1" 6 1 ∷ field "FFIE1" 5 1 ∷ field "FMPIE1" 4 1 ∷ field "FOVIE0" 3 1 ∷ field "FFIE0" 2 1 ∷ field "FMPIE0" 1 1 ∷ field "TMEIE" 0 1 ∷ []) ∷
     layout "ESR" (field "REC" 24 8 ∷ field "TEC" 16 8 ∷ field "LEC" 4 3 ∷ field "BOFF" 2 1 ∷ field "EPVF" 1 1 ∷ field "EWGF" 0 1 ∷ []) ∷
     layout "BTR" (field "SILM" 31 1 ∷ field "LBKM" 30 1 ∷ field "SJW" 24 2 ∷ field "TS2" 20 3 ∷ field "TS1" 16 4 ∷ field "BRP" 0 10 ∷ []) ∷
     layout "TI0R" (field "STID" 21 11 ∷ field "EXID" 3 29 ∷ field "IDE" 2 1 ∷ field "RTR" 1 1 ∷ field "TXRQ" 0 1 ∷ []) ∷
