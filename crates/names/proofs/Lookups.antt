@@ -9,7 +9,7 @@ use lib.ListN.{getD, drop}
 use lib.Seq.{getD-drop, drop-drop}
 use borrow.Author.Tests.{leb-false}
 use Rattle.model.specs.Base.{pick}
-use Rattle.names.specs.Scan.{byteAt, plain, letter, cellLetter, sameOn, same, wordAt}
+use Rattle.names.specs.Scan.{byteAt, behind, plain, letter, cellLetter, sameOn, same, wordAt}
 use Rattle.names.specs.Rows as rows
 use Rattle.names.specs.Rows.{none, belongs, isNamed, findOn, number, indexed}
 use Rattle.names.specs.Table.{table, named, groupAt}
@@ -40,19 +40,34 @@ unfolding sameOn sameAlong
 same-along s w t p k zero h = refl
 same-along s w t p k (suc n) h = rw (cell-along t p k h, same-along s w t p (k + 1) n h)
 
+-- the group of the row at the front of c
+abbrev pub belongsAlong : List ℕ → ℕ → List ℕ → Bool
+belongsAlong t g c = sameAlong t (plain g (behind g 8)) c 0 9
+
+pub belongs-along : (t : List ℕ) (row g : ℕ) → row ≤ 163 → belongs t row g ≡ belongsAlong t g (drop (row * 29) t)
+unfolding belongs same
+belongs-along t row g h =
+    let m : min row 163 * 29 ≡ row * 29 = omega arith in
+    rw m (same-along t (plain g (behind g 8)) t (row * 29) 0 9 (omega arith))
+
+-- the next row
+pub on : (t : List ℕ) (row : ℕ) → drop ((row + 1) * 29) t ≡ drop 29 (drop (row * 29) t)
+on t row =
+    let e : (row + 1) * 29 ≡ row * 29 + 29 = omega arith in
+    ap (λ (k : ℕ). drop k t) e ∙ sym (drop-drop 29 (row * 29) t)
+
 -- ---- n rows at the front of c
 
 unfoldable pub findAlong : List ℕ → List ℕ → Word → ℕ → List ℕ → ℕ → ℕ → ℕ
 findAlong t s w g c row zero = row
-findAlong t s w g c row (suc n) = pick (sameAlong s w (drop 8 c) 0 9 && belongs t row g) row (findAlong t s w g (drop 29 c) (row + 1) n)
+findAlong t s w g c row (suc n) = pick (sameAlong s w (drop 8 c) 0 9 && belongsAlong t g c) row (findAlong t s w g (drop 29 c) (row + 1) n)
 
 find-along : (t s : List ℕ) (w : Word) (g row n : ℕ) → row + n ≤ 163 → findOn t s w g row n ≡ findAlong t s w g (drop (row * 29) t) row n
 unfolding findOn findAlong isNamed same
 find-along t s w g row zero h = refl
 find-along t s w g row (suc n) h =
     let m : min row 163 * 29 + 8 ≡ row * 29 + 8 = omega arith in
-    let e : (row + 1) * 29 ≡ row * 29 + 29 = omega arith in
-    rw (m, same-along s w t (row * 29 + 8) 0 9 (omega arith), find-along t s w g (row + 1) n (omega arith), drop-drop 8 (row * 29) t, drop-drop 29 (row * 29) t, e)
+    rw (m, same-along s w t (row * 29 + 8) 0 9 (omega arith), ← (drop-drop 8 (row * 29) t), belongs-along t row g (omega arith), find-along t s w g (row + 1) n (omega arith), on t row)
 
 -- ---- the whole lookup
 
