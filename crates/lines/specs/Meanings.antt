@@ -1,16 +1,33 @@
 -- What a line can mean, and where it is no line of a lesson.
 use mathlib.Core.Bool.{Bool, _&&_, _||_, not}
-use mathlib.Core.List.{List}
+use mathlib.Core.List.{List, [], _∷_}
 use Prim.Native.Nat.{ℕ}
 use lib.Dec.{eqb}
-use Rattle.model.specs.Base.{pick}
+use Rattle.model.specs.Base.{pick, one}
+use Rattle.model.specs.Writer.{wideNumbers}
 use Rattle.model.specs.declared.Answer.{Answer}
 use Rattle.names.specs.Scan.{wordAt}
 use Rattle.lines.specs.Parts.{isEmpty}
 use Rattle.lines.specs.declared.parts.Part.{Part}
 use Rattle.lines.specs.declared.Expected.{Expected}
 use Rattle.lines.specs.declared.Meaning.{Meaning}
-use Rattle.lines.specs.declared.Meaning.the-variants.{Bad}
+use Rattle.lines.specs.declared.Meaning.the-variants.{Nothing, Step, Bytes, Expect, Repeat, Done, Bad}
+
+-- ---- the cases as numbers, each with its values
+
+abbrev pub expectedNumbers : Expected → List ℕ
+expectedNumbers x = one (x .answered) ∷ x .code ∷ x .word ∷ one (x .lined) ∷ x .lines ∷ []
+
+abbrev pub meaningNumbers : Meaning → List ℕ
+meaningNumbers Nothing = 0 ∷ []
+meaningNumbers (Step e) = 1 ∷ wideNumbers e
+meaningNumbers (Bytes p) = 2 ∷ p ∷ []
+meaningNumbers (Expect x) = 3 ∷ expectedNumbers x
+meaningNumbers (Repeat n) = 4 ∷ n ∷ []
+meaningNumbers Done = 5 ∷ []
+meaningNumbers (Bad f) = 6 ∷ f .place ∷ f .rule ∷ f .number ∷ []
+
+-- ---- meanings
 
 abbrev pub bad : ℕ → ℕ → ℕ → Meaning
 bad p rule n = Bad (record { place = p; rule = rule; number = n })
