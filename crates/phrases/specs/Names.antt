@@ -115,5 +115,5 @@ unfoldable pub withFields : Said → List Found → ℕ → Said
 withFields s [] w = s
 withFields s (f ∷ l) w = withFields (withField s f w) l w
 
-unfoldable pub said : Line → List Found → ℕ → Said
-said l fs w = record { line = putAll l (allText fs w); rest = restOf fs w w }
+unfoldable pub saidOf : Line → List Found → ℕ → Said
+saidOf l fs w = record { line = putAll l (allText fs w); rest = restOf fs w w }

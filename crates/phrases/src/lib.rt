@@ -171,8 +171,8 @@ fn with_own(s: Said, register: usize, row: usize, w: u32) -> Said
     s
 }
 
-fn said(l: Line, register: usize, w: u32) -> Said
-    ensures { λ r. ⌜ r ≡ naming.said l (naming.fieldsOf register) w ⌝ }
+fn all_fields(l: Line, register: usize, w: u32) -> Said
+    ensures { λ r. ⌜ r ≡ naming.saidOf l (naming.fieldsOf register) w ⌝ }
 {
     let mut t = Said {
         line: l,
@@ -191,7 +191,7 @@ pub fn fields(l: Line, offset: u32, w: u32) -> Line
     ensures { λ r. ⌜ r ≡ lines.putAll l (naming.fieldsText offset w) ⌝ }
 {
     let f = names::register_at(offset);
-    let t = said(l, f.row, w);
+    let t = all_fields(l, f.row, w);
     t.line
 }
 
@@ -218,7 +218,7 @@ fn written(l: Line, offset: u32, w: u32, full: bool) -> Line
         return fields(number(l, w), offset, w);
     }
     let f = names::register_at(offset);
-    let t = said(l, f.row, w);
+    let t = all_fields(l, f.row, w);
     if (t.rest == 0) & (w != 0) {
         return t.line;
     }
@@ -267,7 +267,7 @@ pub fn step(l: Line, e: Step, full: bool) -> Line
 
 // Bytes as they are: `bytes 0B 00 1C`.
 pub fn bytes(l: Line, record: &[u8]) -> Line
-    ensures { λ r. ⌜ r ≡ lines.putAll l (framing.bytesText (now (record .entry))) ⌝ }
+    ensures { λ r. ⌜ r ≡ lines.putAll l (framing.bytesText (now («record» .entry))) ⌝ }
 {
     frames::bytes(l, record)
 }
