@@ -1,6 +1,6 @@
 -- What holds of a line to which more is added. Document 01 leaves the words of a trace free.
 use mathlib.Core.Path.{_≡_, refl, _∙_}
-use mathlib.Core.List.{List}
+use mathlib.Core.List.{List, [], _∷_, _++_}
 use Prim.Native.Nat.{ℕ, _+_, _≤_, _<_, min}
 use native.Mathlib.Omega.{arith}
 use lib.Dec.{ltb}
@@ -22,6 +22,16 @@ extends-trans l m r a b = record { kept = λ i h. b .kept i (omega (arith, a .lo
 -- a byte more, if there is room
 abbrev pub added : Line → ℕ → Line
 added l b = pick (ltb (l .at) 512) (record { bytes = set (l .bytes) (l .at) b; at = l .at + 1 }) l
+
+-- the bytes of a text, one behind the other
+unfoldable pub putAll : Line → List ℕ → Line
+putAll l [] = l
+putAll l (b ∷ s) = putAll (added l b) s
+
+pub put-both : (l : Line) (a b : List ℕ) → putAll (putAll l a) b ≡ putAll l (a ++ b)
+unfolding putAll
+put-both l [] b = refl
+put-both l (x ∷ a) b = put-both (added l x) a b
 
 -- the last thing that was added is a newline
 pub record EndsLine (r : Line) : Type 0 where

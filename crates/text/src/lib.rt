@@ -1,8 +1,10 @@
 // A line of text, by value. Each function adds to the line; a byte for which there is no room is left out, and the
 // longest line leaves room.
 ghost use mathlib.Core.Path.{_≡_};
+ghost use Prim.Native.Nat.{_%_};
 ghost use lib.ListN.{replicate};
 ghost use Rattle.text.specs.Lines as lines;
+ghost use Rattle.text.specs.Numbers as numbers;
 use bits::least;
 
 const ROOM: usize = 512;
@@ -38,6 +40,7 @@ pub fn byte(l: Line, b: u8) -> Line
 
 pub fn put(l: Line, text: &[u8]) -> Line
     ensures { λ r. ⌜ lines.Extends l r ⌝ }
+    ensures { λ r. ⌜ r ≡ lines.putAll l (now (text .entry)) ⌝ }
 {
     let mut m = l;
     for i in 0..text.len() {
@@ -88,6 +91,7 @@ pub fn copied(l: Line, row: &mut [u8]) -> usize
 
 pub fn decimal(l: Line, n: u64) -> Line
     ensures { λ r. ⌜ lines.Extends l r ⌝ }
+    ensures { λ r. ⌜ r ≡ lines.putAll l (numbers.decimal n) ⌝ }
 {
     let mut digits = [0u8; 20];
     let k = io::decimal(n, &mut digits);
@@ -104,7 +108,9 @@ pub fn right(l: Line, n: u64, width: usize) -> Line
     put(m, &digits[..k])
 }
 
-fn digit(n: u32) -> u8 {
+fn digit(n: u32) -> u8
+    ensures { λ r. ⌜ r ≡ numbers.digit (n % 16) ⌝ }
+{
     let d = (n % 16) as u8;
     if d < 10 {
         return 48 + d;
@@ -113,7 +119,9 @@ fn digit(n: u32) -> u8 {
 }
 
 // Digit j of a word, counted from the lowest.
-fn digit_at(w: u32, j: u32) -> u8 {
+fn digit_at(w: u32, j: u32) -> u8
+    ensures { λ r. ⌜ r ≡ numbers.digitAt w j ⌝ }
+{
     if 8 <= j {
         return b'0';
     }
@@ -121,16 +129,26 @@ fn digit_at(w: u32, j: u32) -> u8 {
     digit(w >> places)
 }
 
-// The lowest k digits of a word.
-pub fn hex(l: Line, w: u32, k: u32) -> Line
+// The lowest k hex digits of a word.
+pub fn digits(l: Line, w: u32, k: u32) -> Line
     ensures { λ r. ⌜ lines.Extends l r ⌝ }
+    ensures { λ r. ⌜ r ≡ lines.putAll l (numbers.digits w k) ⌝ }
 {
-    let mut m = put(l, b"0x");
+    let mut m = l;
     for i in 0..k {
         let j = k - 1 - i;
         m = byte(m, digit_at(w, j));
     }
     m
+}
+
+// The same, told as hex digits.
+pub fn hex(l: Line, w: u32, k: u32) -> Line
+    ensures { λ r. ⌜ lines.Extends l r ⌝ }
+    ensures { λ r. ⌜ r ≡ lines.putAll l (numbers.hex w k) ⌝ }
+{
+    let m = put(l, b"0x");
+    digits(m, w, k)
 }
 
 // A byte as two digits with a space in front.
