@@ -123,7 +123,7 @@ pub fn complaint(program: &[u8], n: u64, place: u64, f: Fault) -> Line
 // ---- a lesson that doesn't open with a reset
 
 pub fn unopened(l: Line) -> Line {
-    put(l, b"refused 11: the lesson doesn't open with a reset")
+    put(l, b"refused 11: a lesson opens with a reset")
 }
 
 // The same as a line, with the interrupt lines that are up.
@@ -131,8 +131,8 @@ pub fn unopened_line(up: u8) -> Line
     ensures { λ r. ⌜ lines.EndsLine r ⌝ }
 {
     let a = text::right(text::empty(), 1, NUMBER_WIDTH);
-    let b = unopened(column(a, ANSWER_COLUMN));
-    byte(lines(b, up), b'\n')
+    let b = put(a, b"  no reset, at byte 0");
+    byte(lines(unopened(column(b, ANSWER_COLUMN)), up), b'\n')
 }
 
 // A byte of a row as two digits with a blank in front, where the row has it.
