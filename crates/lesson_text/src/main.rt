@@ -96,7 +96,7 @@ fn told_bytes(p: Progress, rest: &[u8], out: &mut [u8]) -> Progress {
     if n == 0 {
         return stopped(p);
     }
-    told(p, phrases::bytes(text::empty(), &rest[..n]), n, out)
+    told(p, phrases::bytes(text::empty(), &rest[0..n]), n, out)
 }
 
 // The first of them, with what is wrong; where reading failed the script may just break off inside the record.
@@ -108,7 +108,7 @@ fn unread(p: Progress, f: Fault, rest: &[u8], out: &mut [u8]) -> Progress {
         return told_bytes(q, rest, out);
     }
     let n = least(LONGEST_RECORD, rest.len());
-    let l = put(phrases::bytes(text::empty(), &rest[..n]), b" # ");
+    let l = put(phrases::bytes(text::empty(), &rest[0..n]), b" # ");
     told(q, wording::fault(l, f), n, out)
 }
 

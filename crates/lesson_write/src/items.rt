@@ -36,7 +36,7 @@ pub(crate) fn tag(item: &[u8]) -> u8 {
 pub(crate) fn length(rest: &[u8]) -> usize {
     let low = byte_at(rest, 1) as usize;
     let high = byte_at(rest, 2) as usize;
-    least(HEAD + low + high * 256, rest.len())
+    HEAD + low + high * 256
 }
 
 pub(crate) fn count(item: &[u8]) -> u32 {
@@ -47,12 +47,12 @@ pub(crate) fn count(item: &[u8]) -> u32 {
     a + b * 256 + c * 65536 + d * 16777216
 }
 
-// The first byte that goes out of an item of so many bytes: with its head or without.
-pub(crate) fn first(headed: bool, length: usize) -> usize {
+// The first byte that goes out of an item: with its head or without.
+pub(crate) fn first(headed: bool) -> usize {
     if headed {
         return 0;
     }
-    least(HEAD, length)
+    HEAD
 }
 
 // Copies to the front of some space what it has room for.
@@ -72,23 +72,26 @@ fn set(row: &mut [u8], i: usize, b: u8) {
     }
 }
 
-// A number in n bytes from a place on.
-fn set_number(row: &mut [u8], at: usize, n: usize, value: u64) {
-    let mut rest = value;
-    for i in 0..n {
-        set(
-            row,
-            std::num::wrapping_add_usize(at, i),
-            (rest % 256) as u8,
-        );
-        rest = rest / 256;
-    }
+// A number in two bytes from a place on.
+fn set_half(row: &mut [u8], at: usize, n: u32) {
+    set(row, at, (n % 256) as u8);
+    set(
+        row,
+        std::num::wrapping_add_usize(at, 1),
+        (n / 256 % 256) as u8,
+    );
+}
+
+// In four bytes.
+fn set_word(row: &mut [u8], at: usize, n: u32) {
+    set_half(row, at, n);
+    set_half(row, std::num::wrapping_add_usize(at, 2), n / 65536);
 }
 
 // The head of an item with so many bytes of body, and how long the item is.
 fn headed(row: &mut [u8], tag: u8, body: usize) -> usize {
     set(row, 0, tag);
-    set_number(row, 1, 2, body as u64);
+    set_half(row, 1, (body % 65536) as u32);
     std::num::wrapping_add_usize(HEAD, body)
 }
 
@@ -110,17 +113,18 @@ fn bytes_item(row: &mut [u8], line: &[u8], place: usize) -> usize {
 }
 
 fn expect_item(row: &mut [u8], x: Expected, number: u64) -> usize {
-    set_number(row, 3, 8, number);
+    set_word(row, 3, (number % 4294967296) as u32);
+    set_word(row, 7, (number / 4294967296) as u32);
     set(row, 11, bits::one(x.answered) as u8);
     set(row, 12, x.code);
-    set_number(row, 13, 4, x.word as u64);
+    set_word(row, 13, x.word);
     set(row, 17, bits::one(x.lined) as u8);
     set(row, 18, x.lines);
     headed(row, EXPECTATION, 16)
 }
 
 fn repeat_item(row: &mut [u8], n: u32) -> usize {
-    set_number(row, 3, 4, n as u64);
+    set_word(row, 3, n);
     headed(row, REPEAT, 4)
 }
 

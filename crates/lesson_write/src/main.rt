@@ -123,7 +123,7 @@ fn put_out(p: Progress, item: &[u8], out: &mut [u8]) -> Progress {
     if !is_written(a, items::tag(item)) {
         return p;
     }
-    let first = items::first(a.expects, item.len());
+    let first = least(items::first(a.expects), item.len());
     let from = least(p.waiting, out.len());
     let n = items::copied(&item[first..], &mut out[from..]);
     let mut q = p;
@@ -244,7 +244,7 @@ fn with_line(
         return stopped(p);
     }
     let n = least(items::made(m, line, number(p), row), row.len());
-    passed(with_item(q, m, &row[..n], held, out), line.len())
+    passed(with_item(q, m, &row[0..n], held, out), line.len())
 }
 
 // The text ends.
@@ -285,7 +285,7 @@ fn next_line(
     }
     if (n < rest.len()) | (i.ended & (0 < n)) {
         let end = least(n, rest.len());
-        return with_line(p, &rest[..end], row, held, out);
+        return with_line(p, &rest[0..end], row, held, out);
     }
     if i.ended {
         return ended(p);
@@ -299,10 +299,10 @@ fn next_line(
 fn next_item(p: Progress, held: &[u8], out: &mut [u8]) -> Progress {
     let from = least(p.place, held.len());
     let rest = &held[from..];
-    let n = items::length(rest);
-    let item = &rest[..n];
+    let n = least(items::length(rest), rest.len());
+    let item = &rest[0..n];
     let end = std::num::wrapping_add_usize(from, n);
-    let r = repeats::behind(p.turns, items::tag(item), items::count(item), end);
+    let r = repeats::after(p.turns, items::tag(item), items::count(item), end);
     let t = r.turns;
     let mut q = p;
     q.turns = t;

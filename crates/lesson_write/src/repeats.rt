@@ -51,8 +51,8 @@ fn opened(t: Turns, n: u32, place: usize) -> Turns {
 
 // At the end of a turn: back to the first item, or on.
 fn closed(t: Turns, place: usize) -> Behind {
-    let n = t.open;
-    if (n == 0) | (8 < n) {
+    let i = std::num::wrapping_sub_usize(t.open, 1);
+    if 8 <= i {
         return Behind {
             turns: t,
             place: place,
@@ -60,7 +60,6 @@ fn closed(t: Turns, place: usize) -> Behind {
             going: false,
         };
     }
-    let i = n - 1;
     let left = t.left[i];
     let start = t.starts[i];
     let mut u = t;
@@ -95,7 +94,7 @@ fn skipped(t: Turns, tag: u8, place: usize) -> Behind {
 }
 
 // Behind an item with this tag and, of a repeat, this count; the next one is at a place.
-pub(crate) fn behind(t: Turns, tag: u8, n: u32, place: usize) -> Behind {
+pub(crate) fn after(t: Turns, tag: u8, n: u32, place: usize) -> Behind {
     if t.skipped != 0 {
         return skipped(t, tag, place);
     }

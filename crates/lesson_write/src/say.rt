@@ -5,6 +5,10 @@ use lines::Fault;
 use names::Group;
 use names::rows::Column;
 use names::rows::NONE;
+use names::scan::Class;
+use names::scan::byte_at;
+use names::scan::distance;
+use names::scan::run_end;
 use names::scan::word_at;
 use text::Line;
 use text::byte;
@@ -40,13 +44,6 @@ fn is_blank(c: u8) -> bool {
     (c == b' ') | (c == b'\t') | (c == b'\r')
 }
 
-fn byte_at(s: &[u8], i: usize) -> u8 {
-    if i < s.len() {
-        return s[i];
-    }
-    b' '
-}
-
 // Whether nothing of the line is left at a place: at its end and at a comment.
 fn is_end(s: &[u8], place: usize) -> bool {
     if s.len() <= place {
@@ -56,27 +53,18 @@ fn is_end(s: &[u8], place: usize) -> bool {
     (byte_at(s, place) == b'#') & !behind
 }
 
-// Up to the next blank.
-fn word_length(s: &[u8]) -> usize {
-    for i in 0..s.len() {
-        if is_blank(s[i]) {
-            return i;
-        }
-    }
-    s.len()
-}
-
 // A byte that would move the place on a screen is shown as a question mark.
 fn shown(l: Line, c: u8) -> Line {
     byte(l, bits::pick_u8((c < 32) | (c == 127), b'?', c))
 }
 
-fn word(l: Line, s: &[u8]) -> Line {
-    let n = least(word_length(s), s.len());
+// What stands from a place up to the next blank.
+fn word(l: Line, s: &[u8], place: usize) -> Line {
+    let n = distance(place, run_end(s, place, Class::NoBlank));
     let k = least(n, LONGEST_WORD);
     let mut m = byte(l, b'\'');
     for i in 0..k {
-        m = shown(m, byte_at(s, i));
+        m = shown(m, byte_at(s, std::num::wrapping_add_usize(place, i)));
     }
     said(m, b"'|..'", bits::one(k < n), 0)
 }
@@ -89,8 +77,7 @@ fn found(l: Line, s: &[u8], place: usize) -> Line {
     if is_blank(byte_at(s, place)) {
         return put(a, b"a blank");
     }
-    let from = least(place, s.len());
-    word(a, &s[from..])
+    word(a, s, place)
 }
 
 // A place of a line and what was found there.
@@ -141,14 +128,6 @@ fn number_or_name(l: Line, n: u32, g: Group) -> Line {
 
 // ---- the fields of a register
 
-fn has_fields(register: usize) -> bool {
-    let mut some = false;
-    for row in 0..NONE {
-        some = some | names::belongs(row, Group::Fields(register));
-    }
-    some
-}
-
 // That there are none, and why.
 fn no_fields(l: Line, offset: u32, register: usize) -> Line {
     if register == NONE {
@@ -157,26 +136,27 @@ fn no_fields(l: Line, offset: u32, register: usize) -> Line {
     put(phrases::register(put(l, b", for "), offset), b" has no fields")
 }
 
-fn fields(l: Line, offset: u32, register: usize) -> Line {
-    let a = phrases::register(put(l, b"a field of "), offset);
-    listed(put(a, b": "), Group::Fields(register))
+// The fields, behind one text where there are some and behind another where there are none.
+fn fields(some: Line, none: Line, offset: u32) -> Line {
+    let f = names::register_at(offset);
+    let a = put(
+        phrases::register(put(some, b"a field of "), offset),
+        b": ",
+    );
+    let b = listed(a, Group::Fields(f.row));
+    if a.at < b.at {
+        return b;
+    }
+    no_fields(none, offset, f.row)
 }
 
 fn value(l: Line, offset: u32) -> Line {
-    let f = names::register_at(offset);
     let a = up_to(l, u32::MAX);
-    if !has_fields(f.row) {
-        return no_fields(a, offset, f.row);
-    }
-    fields(put(a, b" or "), offset, f.row)
+    fields(put(a, b" or "), a, offset)
 }
 
 fn field(l: Line, offset: u32) -> Line {
-    let f = names::register_at(offset);
-    if !has_fields(f.row) {
-        return no_fields(put(l, b"the end of the line"), offset, f.row);
-    }
-    fields(l, offset, f.row)
+    fields(l, put(l, b"the end of the line"), offset)
 }
 
 // Whether the value of a write begins at a place: there a number is allowed too.

@@ -41,7 +41,7 @@ pub(crate) struct Checks {
     pub(crate) failed: u64,
 }
 
-fn last(of: u32, code: u8, lines: u8) -> Last {
+fn answer_of(of: u32, code: u8, lines: u8) -> Last {
     Last {
         of: of,
         code: code,
@@ -54,7 +54,7 @@ fn last(of: u32, code: u8, lines: u8) -> Last {
 
 pub(crate) fn none() -> Checks {
     Checks {
-        last: last(NOTHING, 0, 0),
+        last: answer_of(NOTHING, 0, 0),
         fault: Fault {
             code: 0,
             kind: 0,
@@ -101,7 +101,7 @@ pub(crate) fn with_answer(
 
 pub(crate) fn with_fault(c: Checks, f: Fault, lines: u8) -> Checks {
     let mut d = c;
-    d.last = last(UNREAD, f.code, lines);
+    d.last = answer_of(UNREAD, f.code, lines);
     d.fault = f;
     d.unsaid = true;
     d
@@ -109,13 +109,13 @@ pub(crate) fn with_fault(c: Checks, f: Fault, lines: u8) -> Checks {
 
 pub(crate) fn with_opening(c: Checks, lines: u8) -> Checks {
     let mut d = c;
-    d.last = last(OPENING, 11, lines);
+    d.last = answer_of(OPENING, 11, lines);
     d
 }
 
 pub(crate) fn behind_stop(c: Checks) -> Checks {
     let mut d = c;
-    d.last = last(BEHIND, 0, 0);
+    d.last = answer_of(BEHIND, 0, 0);
     d
 }
 

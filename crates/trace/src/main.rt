@@ -274,7 +274,7 @@ fn item_turn(p: Progress, space: &mut [u8], script: &mut [u8], out: &[u8]) -> Tu
         Item::Bytes(n) => {
             let end = least(n, rest.len());
             Turned {
-                progress: with_bytes(p, &rest[..end], script),
+                progress: with_bytes(p, &rest[0..end], script),
                 turn: Turn::Waits,
             }
         }

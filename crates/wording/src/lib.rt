@@ -135,10 +135,14 @@ pub fn unopened_line(up: u8) -> Line
     byte(lines(unopened(column(b, ANSWER_COLUMN)), up), b'\n')
 }
 
+fn pair(l: Line, b: u8) -> Line {
+    text::bytes(l, b as u32, 1)
+}
+
 // A byte of a row as two digits with a blank in front, where the row has it.
 fn byte_of(l: Line, row: &[u8], i: usize) -> Line {
     if i < row.len() {
-        return text::bytes(l, row[i] as u32, 1);
+        return pair(l, row[i]);
     }
     l
 }
