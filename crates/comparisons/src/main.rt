@@ -103,14 +103,14 @@ struct Session {
     going: bool,
 }
 
-fn begun(lesson: bool) -> Session {
+fn begun(lesson: bool, going: bool) -> Session {
     Session {
         controller: controller::reset(),
         input: stream::nothing_read(),
         counts: no_counts(),
         text: head(),
         opened: !lesson,
-        going: true,
+        going: going,
     }
 }
 
@@ -232,8 +232,8 @@ fn round(s: Session, space: &mut [u8]) -> Session {
 
 // A loop that is proved has to end, and nothing says that the input does: the turns are counted down from a number that
 // no run uses up.
-fn run(space: &mut [u8], lesson: bool) {
-    let mut s = begun(lesson);
+fn run(first: Session, space: &mut [u8]) {
+    let mut s = first;
     let mut turns = u64::MAX;
     while 0 < turns && s.going {
         s = round(s, space);
@@ -243,15 +243,22 @@ fn run(space: &mut [u8], lesson: bool) {
 }
 
 // Other arguments than --lesson are told, and nothing is read.
-fn main() {
+fn arguments() -> Session {
     let mut text = io::buffer();
     let length = os::arg(1, &mut text);
     let lesson = check::same(&text[..length], b"--lesson");
     let n = os::arg_count();
-    if !((n < 2) | ((n == 2) & lesson)) {
+    let known = (n < 2) | ((n == 2) & lesson);
+    if !known {
         complain(b"usage: comparisons [--lesson]\n");
-        return;
     }
+    begun(lesson, known)
+}
+
+fn main() {
     let mut space = io::large_buffer();
-    run(&mut space, lesson);
+    let first = arguments();
+    if first.going {
+        run(first, &mut space);
+    }
 }

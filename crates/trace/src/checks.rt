@@ -87,8 +87,7 @@ pub(crate) fn with_answer(
     reason: u32,
     index: u32,
 ) -> Checks {
-    let mut d = c;
-    d.last = Last {
+    let answer = Last {
         of: STEP,
         code: code,
         lines: lines,
@@ -96,6 +95,8 @@ pub(crate) fn with_answer(
         reason: reason,
         index: index,
     };
+    let mut d = c;
+    d.last = answer;
     d
 }
 

@@ -208,13 +208,14 @@ fn items_ended(p: Progress, script: &[u8]) -> Turned {
     }
     let i = p.input;
     let from = p.items;
-    let mut q = p;
-    q.input = Input {
+    let last = Input {
         place: i.place,
         filled: i.filled,
         ended: true,
         failed: from.failed,
     };
+    let mut q = p;
+    q.input = last;
     Turned {
         progress: q,
         turn: record_turn(q, script),
@@ -248,12 +249,13 @@ fn with_bytes(p: Progress, item: &[u8], script: &mut [u8]) -> Progress {
     let k = stream::to_front(script, i.place, i.filled);
     let from = least(k, script.len());
     let n = items::body_copied(item, &mut script[from..]);
-    q.input = Input {
+    let next = Input {
         place: 0,
         filled: std::num::wrapping_add_usize(from, n),
         ended: false,
         failed: false,
     };
+    q.input = next;
     q
 }
 
@@ -524,12 +526,10 @@ struct Session {
     progress: Progress,
 }
 
-fn round(s: Session, space: &mut [u8], script: &mut [u8], out: &mut [u8]) -> Session {
-    let p = s.progress;
-    let u = turn_of(p, space, script, out);
+// What a turn does: its step, its text, and what is expected of it.
+fn stepped(z: Controller, u: Turned, out: &mut [u8]) -> Session {
     let t = u.turn;
     let q = u.progress;
-    let z = s.controller;
     let e = step_of(t);
     let a = controller::step(z, e);
     let x = account::account_of(z, e, a);
@@ -539,6 +539,13 @@ fn round(s: Session, space: &mut [u8], script: &mut [u8], out: &mut [u8]) -> Ses
         controller: next,
         progress: all_checked(r, t, out),
     }
+}
+
+fn round(s: Session, space: &mut [u8], script: &mut [u8], out: &mut [u8]) -> Session {
+    let p = s.progress;
+    let z = s.controller;
+    let u = turn_of(p, space, script, out);
+    stepped(z, u, out)
 }
 
 // A loop that is proved has to end, and nothing says that the input does: the turns are counted down from a number that
@@ -564,17 +571,22 @@ fn run(first: Progress, space: &mut [u8], script: &mut [u8], out: &mut [u8]) {
 }
 
 // Other arguments are told, and nothing is traced.
-fn main() {
+fn arguments() -> Progress {
     let mut text = io::buffer();
     let length = os::arg(1, &mut text);
     let lesson = check::same(&text[..length], b"--expects");
     let n = os::arg_count();
-    if !((n < 2) | ((n == 2) & lesson)) {
-        complain(b"usage: trace [--expects]\n");
-        return;
-    }
+    let known = (n < 2) | ((n == 2) & lesson);
+    complain_if(!known, b"usage: trace [--expects]\n");
+    begun(lesson, known)
+}
+
+fn main() {
     let mut space = io::large_buffer();
     let mut script = io::buffer();
     let mut out = io::large_buffer();
-    run(begun(lesson, true), &mut space, &mut script, &mut out);
+    let first = arguments();
+    if first.going {
+        run(first, &mut space, &mut script, &mut out);
+    }
 }
