@@ -133,16 +133,16 @@ fn no_fields(l: Line, offset: u32, register: usize) -> Line {
     if register == NONE {
         return text::hex(put(l, b", for no register is at "), offset, 4);
     }
-    put(phrases::register(put(l, b", for "), offset), b" has no fields")
+    put(
+        phrases::register(put(l, b", for "), offset),
+        b" has no fields",
+    )
 }
 
 // The fields, behind one text where there are some and behind another where there are none.
 fn fields(some: Line, none: Line, offset: u32) -> Line {
     let f = names::register_at(offset);
-    let a = put(
-        phrases::register(put(some, b"a field of "), offset),
-        b": ",
-    );
+    let a = put(phrases::register(put(some, b"a field of "), offset), b": ");
     let b = listed(a, Group::Fields(f.row));
     if a.at < b.at {
         return b;
@@ -236,7 +236,12 @@ pub(crate) fn no_repeat(number: u64, s: &[u8]) {
 
 pub(crate) fn too_much(number: u64, s: &[u8], repeat: u64) {
     let a = begun(number, s, first_place(s));
-    let b = said(a, b"done, for the lines behind the repeat of line %", 0, repeat);
+    let b = said(
+        a,
+        b"done, for the lines behind the repeat of line %",
+        0,
+        repeat,
+    );
     say_line(put(b, b" take at most 60000 bytes"));
 }
 
