@@ -1,11 +1,15 @@
 //! The subcommands.
 
+use crate::bad_lines;
 use crate::broken_replies;
 use crate::comparisons::{self, Search};
 use crate::controller::Controller;
 use crate::encode::{self, REQUEST_LENGTH};
+use crate::expects::{self, Unmet};
 use crate::generate::{generate, Kind, KINDS};
 use crate::lesson::{self, CODE_OPENING};
+use crate::lesson_lines::lesson_lines;
+use crate::lesson_text::{self, each, Fault, Part};
 use crate::malformed;
 use crate::openings;
 use crate::probe::MISTAKES;
@@ -14,6 +18,7 @@ use crate::replies::{self, read_reply};
 use crate::requests::Requests;
 use crate::script::{self, decode, Step, CODE_SHORT, REPLY_LENGTH};
 use crate::shrink;
+use crate::text_writer;
 use crate::writer::RESET_RECORD;
 use crate::USAGE;
 use std::fs::File;
@@ -22,6 +27,7 @@ use std::os::unix::io::AsFd;
 
 const READ_TO_THE_END: u8 = 0;
 const DEMAND_VIOLATED: u8 = 1;
+const UNMET: u8 = 1;
 const UNREADABLE: u8 = 2;
 /// Scripts are read, and replies written, in pieces of about this size.
 const PIECE: usize = 1 << 16;
@@ -58,12 +64,28 @@ pub fn run(words: &[&str]) -> Status {
             choose_variant(options)?;
             list_replies()
         }
+        ["write", options @ ..] => {
+            choose_variant(options)?;
+            write_script()
+        }
+        ["text", "--wrong", variant] => {
+            choose_variant(&["--wrong", variant])?;
+            write_text(&[])
+        }
+        ["text", files @ ..] => write_text(files),
+        ["expects", options @ ..] => {
+            choose_variant(options)?;
+            check_expectations()
+        }
         ["generate", seed, records] => write_generated(seed, records, "mix"),
         ["generate", seed, records, kind] => write_generated(seed, records, kind),
         ["malformed", seed, count, folder] => malformed::write_files(number(seed)?, number(count)?, folder),
         ["encode-requests", seed, count] => write_requests(seed, count),
         ["broken-replies", seed, count, folder] => broken_replies::write_files(number(seed)?, number(count)?, folder),
         ["openings", folder] => openings::write_files(folder),
+        ["lesson-lines", seed, count] => write_bytes(&lesson_lines(number(seed)?, number(count)?)),
+        ["bad-lines", seed, count] => write_bytes(&bad_lines::bad_lines(number(seed)?, number(count)?)),
+        ["edge-texts", folder] => bad_lines::write_files(folder),
         ["shrink", a, b, file] => shrink::shrink(a, b, file),
         ["race", a, b, file, rounds] => race::race(a, b, file, number(rounds)?),
         ["words"] => print_words(),
@@ -350,8 +372,81 @@ fn write_generated(seed: &str, records: &str, kind: &str) -> Status {
 }
 
 fn write_requests(seed: &str, count: &str) -> Status {
-    Output::new()?.write(&encode::requests(number(seed)?, number(count)?));
+    write_bytes(&encode::requests(number(seed)?, number(count)?))
+}
+
+fn write_bytes(bytes: &[u8]) -> Status {
+    Output::new()?.write(bytes);
     Ok(0)
+}
+
+/// The parts of the lesson on standard input; a fault is told.
+fn read_lesson(command: &str) -> Result<Option<Vec<Part>>, String> {
+    match lesson_text::read(&standard_input()?) {
+        Ok(parts) => Ok(Some(parts)),
+        Err(Fault { line, column, message }) => {
+            eprintln!("{command}: line {line}, column {column}: {message}");
+            Ok(None)
+        }
+    }
+}
+
+/// The bytes of the lesson on standard input, none where it has a fault.
+fn write_script() -> Status {
+    let parts = match read_lesson("write")? {
+        Some(parts) => parts,
+        None => return Ok(UNREADABLE),
+    };
+    let mut output = Output::new()?;
+    let mut script = Vec::new();
+    each(&parts, &mut |part| {
+        if let Part::Bytes(bytes) = part {
+            script.extend_from_slice(bytes);
+        }
+        if script.len() >= PIECE {
+            output.write(&script);
+            script.clear();
+        }
+        true
+    });
+    output.write(&script);
+    Ok(READ_TO_THE_END)
+}
+
+/// The text of each file, or of standard input.
+fn write_text(files: &[&str]) -> Status {
+    let mut scripts = Vec::new();
+    for file in files {
+        scripts.push(std::fs::read(file).map_err(|error| format!("{file}: {error}"))?);
+    }
+    if files.is_empty() {
+        scripts.push(standard_input()?);
+    }
+    let mut lines = String::new();
+    for line in scripts.iter().flat_map(|script| text_writer::write(script)) {
+        lines += &line;
+        lines.push('\n');
+    }
+    Output::new()?.write(lines.as_bytes());
+    Ok(READ_TO_THE_END)
+}
+
+/// Each expectation that is not met is a line on standard error.
+fn check_expectations() -> Status {
+    let parts = match read_lesson("expects")? {
+        Some(parts) => parts,
+        None => return Ok(UNREADABLE),
+    };
+    match expects::check(&parts) {
+        Ok(unmet) => {
+            unmet.iter().for_each(|Unmet { line, message }| eprintln!("line {line}: {message}"));
+            Ok(if unmet.is_empty() { READ_TO_THE_END } else { UNMET })
+        }
+        Err(message) => {
+            eprintln!("expects: {message}");
+            Ok(UNREADABLE)
+        }
+    }
 }
 
 fn print_words() -> Status {

@@ -1,22 +1,26 @@
-//! What the generated scripts, requests, replies and lessons reach: the
+//! What the generated scripts, requests, replies, lessons and texts reach: the
 //! branches marked `here!()`, and the meetings of a step with the state it
 //! finds, seen from outside.
 
+use crate::bad_lines::{bad_lines, edge_texts, repeat_of};
 use crate::broken_replies::broken_replies;
 use crate::controller::{Answer, Controller, Mode};
 use crate::encode::{self, REQUEST_LENGTH};
 use crate::generate::{generate, Kind, KINDS};
 use crate::lesson;
+use crate::lesson_lines::lesson_lines;
+use crate::lesson_text;
 use crate::malformed::broken_script;
 use crate::openings::openings;
 use crate::registers::{mcr, Register, FIFOS};
 use crate::replies::read_reply;
 use crate::script::{decode, step, Step, CODE_SHORT, REPLY_LENGTH};
+use crate::text_writer;
 use std::collections::BTreeMap;
 use std::sync::atomic::{AtomicU64, Ordering::Relaxed};
 
 /// The sources that carry marks.
-const SOURCES: [(&str, &str); 9] = [
+const SOURCES: [(&str, &str); 14] = [
     ("controller.rs", include_str!("controller.rs")),
     ("mailbox.rs", include_str!("mailbox.rs")),
     ("fifo.rs", include_str!("fifo.rs")),
@@ -26,6 +30,11 @@ const SOURCES: [(&str, &str); 9] = [
     ("writer.rs", include_str!("writer.rs")),
     ("replies.rs", include_str!("replies.rs")),
     ("lesson.rs", include_str!("lesson.rs")),
+    ("words.rs", include_str!("words.rs")),
+    ("can_frame.rs", include_str!("can_frame.rs")),
+    ("text_reader.rs", include_str!("text_reader.rs")),
+    ("lesson_text.rs", include_str!("lesson_text.rs")),
+    ("text_writer.rs", include_str!("text_writer.rs")),
 ];
 
 const MOST_LINES: usize = 2048;
@@ -37,12 +46,12 @@ static PASSES: [[AtomicU64; MOST_LINES]; SOURCES.len()] = [NO_PASSES; SOURCES.le
 
 /// Called by `here!()`.
 pub fn pass(file: &str, line: u32) {
-    let index = SOURCES.iter().position(|(name, _)| file.ends_with(name));
+    let index = SOURCES.iter().position(|&(name, _)| file.rsplit('/').next() == Some(name));
     PASSES[index.expect("a source with marks is listed")][line as usize].fetch_add(1, Relaxed);
 }
 
 /// Runs scripts of all kinds, or of one, and some broken ones; then what the
-/// writer and the two readers are given.
+/// writer and the readers are given.
 pub fn report(seeds: u64, records: u64, only: Option<Kind>) -> Result<u8, String> {
     let mut meetings = Meetings::expected();
     let left_out = |kind: Kind| matches!(kind, Kind::Requests | Kind::Search(_));
@@ -56,6 +65,7 @@ pub fn report(seeds: u64, records: u64, only: Option<Kind>) -> Result<u8, String
     encode::requests(1, 0).chunks(REQUEST_LENGTH).for_each(|request| meetings.note_request(request));
     (0..400).for_each(|index| meetings.note_replies(&broken_replies(1, index)));
     openings().iter().for_each(|lesson| meetings.note_lesson(lesson));
+    run_texts();
     let branches = report_branches();
     let missing = meetings.report();
     Ok((branches + missing > 0) as u8)
@@ -85,6 +95,17 @@ fn run(script: &[u8], meetings: &mut Meetings) {
         record += 1;
         place = progress.place;
     }
+}
+
+/// Reads texts and bad lines, and writes texts.
+fn run_texts() {
+    let mut texts = edge_texts();
+    texts.extend([lesson_lines(1, 3000), repeat_of(60_001)]);
+    let lines = bad_lines(1, 1000);
+    texts.extend(lines.split_inclusive(|&byte| byte == b'\n').map(Vec::from));
+    texts.iter().for_each(|text| _ = lesson_text::read(text));
+    text_writer::write(&generate(1, 3000, Kind::Any));
+    (0..400).for_each(|index| _ = text_writer::write(&broken_script(1, index)));
 }
 
 fn report_branches() -> usize {

@@ -2,8 +2,9 @@
 //! steps are accepted and the corners are reached on purpose.
 
 use crate::controller::{Answer, Controller, Mode};
+use crate::fields::named_bits;
 use crate::fifo::Frame;
-use crate::registers::{btr, ier, mcr, BANKS, FIFOS, FILTER_WORD, MAILBOXES};
+use crate::registers::{btr, ier, mcr, Register, BANKS, FIFOS, FILTER_WORD, MAILBOXES};
 use crate::rng::Rng;
 use crate::script::Step;
 
@@ -56,6 +57,7 @@ pub enum Kind {
     RegistersOnly,
     RegistersAccepted,
     MixInterrupts,
+    Any,
     Search(Lesson),
 }
 
@@ -100,7 +102,7 @@ impl Lesson {
 const LESSON_IDENTIFIERS: u32 = 0x100;
 const LESSON_FILTERS: u32 = 4 * BANKS as u32;
 
-pub const KINDS: [(&str, Kind); 25] = [
+pub const KINDS: [(&str, Kind); 26] = [
     ("mix", Kind::Mix),
     ("transmit", Kind::Transmit),
     ("filters", Kind::Filters),
@@ -116,6 +118,7 @@ pub const KINDS: [(&str, Kind); 25] = [
     ("registers-only", Kind::RegistersOnly),
     ("registers-accepted", Kind::RegistersAccepted),
     ("mix-interrupts", Kind::MixInterrupts),
+    ("any", Kind::Any),
     ("search-one-first", Lesson::one_fifo(Sought::First)),
     ("search-one-last", Lesson::one_fifo(Sought::Last)),
     ("search-one-any", Lesson::one_fifo(Sought::Any)),
@@ -166,6 +169,7 @@ pub fn generate(seed: u64, records: u64, kind: Kind) -> Vec<u8> {
         Kind::FramesOnly => generator.frames_only(),
         Kind::RegistersOnly | Kind::RegistersAccepted => generator.registers_only(),
         Kind::Mix | Kind::MixInterrupts => generator.mix(),
+        Kind::Any => generator.any_steps(),
         Kind::Search(lesson) => generator.lesson(lesson),
         kind => generator.one_kind(kind),
     }
@@ -254,7 +258,7 @@ impl Generator {
     /// Reads every register once.
     fn sweep(&mut self) {
         for offset in (0..0x2B0).step_by(4) {
-            if crate::registers::Register::at(offset).is_some() {
+            if Register::at(offset).is_some() {
                 self.read(offset);
             }
         }
@@ -1457,6 +1461,67 @@ impl Generator {
                 }
             }
         }
+    }
+
+    /// Steps of all kinds with any numbers, whatever the controller makes of them.
+    fn any_steps(&mut self) {
+        while !self.done() {
+            if self.rng.percent(2) {
+                self.new_pool();
+            }
+            let step = self.any_step();
+            self.emit(step);
+        }
+    }
+
+    fn any_step(&mut self) -> Step {
+        let byte = |rng: &mut Rng| if rng.percent(70) { rng.below(16) as u8 } else { rng.word() as u8 };
+        match self.rng.below(16) {
+            0 => Step::Reset,
+            1 => Step::Idle,
+            2 => Step::Activity,
+            3 => Step::Start,
+            4 => Step::BitTimes(self.rng.word() as u16),
+            5 => Step::OwnEnd(byte(&mut self.rng)),
+            6 => Step::ReceiveError { code: byte(&mut self.rng), step: byte(&mut self.rng) },
+            7..=8 => Step::Read(self.offset()),
+            9..=11 => {
+                let offset = self.offset();
+                Step::Write(offset, self.any_value(offset))
+            }
+            _ => Step::Frame(self.any_frame()),
+        }
+    }
+
+    /// Often without the bits that have no name.
+    fn any_value(&mut self, offset: u16) -> u32 {
+        let word = self.any_word();
+        match Register::at(offset) {
+            Some(register) if self.rng.percent(60) => word & named_bits(register),
+            _ => word,
+        }
+    }
+
+    /// Half of them in the range of frames; data past the length, often none.
+    fn any_frame(&mut self) -> Frame {
+        let identifier = match self.rng.below(4) {
+            0 => self.rng.word(),
+            1 => self.rng.word() & !1,
+            _ => self.frame().identifier,
+        };
+        let length = match self.rng.below(4) {
+            0 => self.rng.word() as u8,
+            1 => self.rng.below(17) as u8,
+            _ => self.rng.below(9) as u8,
+        };
+        let data = match self.rng.below(6) {
+            0 => self.rng.next(),
+            1 => 0,
+            2 => 1 << self.rng.below(64),
+            _ if length < 8 => self.rng.next() & ((1 << (8 * length)) - 1),
+            _ => self.rng.next(),
+        };
+        Frame { identifier, length, data }
     }
 
     fn registers_only(&mut self) {

@@ -5,7 +5,7 @@ use crate::here;
 use crate::probe::{made, Mistake};
 use crate::script::{Unreadable, HEADER_LENGTH, REPLY_BODY, REPLY_TAG};
 
-const NAMES_OF_LINES: [&str; 4] = ["TX", "FIFO0", "FIFO1", "SCE"];
+pub const NAMES_OF_LINES: [&str; 4] = ["TX", "FIFO0", "FIFO1", "SCE"];
 
 /// Reads the reply at `place`; gives the place behind it too. What stands
 /// there is the next reply.
@@ -92,7 +92,7 @@ pub fn line(number: u64, answer: Answer) -> String {
 }
 
 /// The names of the lines that are set; a byte that no controller gives as it is.
-fn lines_in_words(lines: u8) -> String {
+pub fn lines_in_words(lines: u8) -> String {
     if lines > 15 {
         return format!("0x{lines:02X}");
     }

@@ -1,24 +1,32 @@
 //! Shows for each wrong variant a script on which its replies differ from
 //! the right ones, or how many filters it says that a search compares, or
-//! another answer of the writer, the reply reader or the lesson reader.
+//! another answer of the writer, the reply reader or the lesson reader, or
+//! other bytes, another fault or another text of a lesson.
 
+use crate::bad_lines::{bad_lines, edge_texts, repeat_of};
 use crate::broken_replies::broken_replies;
 use crate::comparisons;
 use crate::controller::{Answer, Controller};
 use crate::encode::{self, ANSWER_LENGTH, REQUEST_LENGTH};
 use crate::generate::{generate, Kind, KINDS};
 use crate::lesson::{self, CODE_OPENING};
+use crate::lesson_lines::lesson_lines;
+use crate::lesson_text::{self, each, Part};
 use crate::malformed::broken_script;
 use crate::openings::openings;
 use crate::probe::{switch_to, MISTAKES};
 use crate::replies::read_reply;
 use crate::script::{step, Progress, Unreadable, CODE_SHORT, REPLY_LENGTH};
+use crate::text_writer;
 
 /// Enough to pass 65,536 requests.
 const REQUEST_RECORDS: u64 = 140_000;
 const MALFORMED: u64 = 600;
 const REQUESTS: u64 = 12_000;
 const BROKEN_REPLIES: u64 = 600;
+const LESSON_LINES: u64 = 2000;
+const BAD_LINES: u64 = 1000;
+const WORDED_RECORDS: u64 = 3000;
 
 /// Something that a wrong variant may answer otherwise.
 trait Case {
@@ -179,6 +187,26 @@ fn lesson_replies(lesson: &[u8]) -> Vec<[u8; REPLY_LENGTH]> {
     }
 }
 
+/// The bytes of a text, or the line and the column of its fault.
+type Script = Result<Vec<u8>, (u64, usize)>;
+
+fn script_of(text: &[u8]) -> Script {
+    let parts = lesson_text::read(text).map_err(|fault| (fault.line, fault.column))?;
+    let mut script = Vec::new();
+    each(&parts, &mut |part| {
+        if let Part::Bytes(bytes) = part {
+            script.extend_from_slice(bytes);
+        }
+        true
+    });
+    Ok(script)
+}
+
+/// Each line as a text of its own.
+fn scripts_of_lines(lines: &[u8]) -> Vec<Script> {
+    lines.split_inclusive(|&byte| byte == b'\n').map(script_of).collect()
+}
+
 /// Replays until the end, an unreadable record or a false from `take`.
 fn replay(script: &[u8], mut take: impl FnMut(u64, &[u8; REPLY_LENGTH]) -> bool) -> u64 {
     let mut controller = Controller::at_reset();
@@ -237,6 +265,7 @@ fn other_cases(seeds: u64, records: u64) -> Vec<Box<dyn Case>> {
     cases.push(writer_case());
     cases.extend((0..BROKEN_REPLIES).map(reply_case));
     cases.extend(openings().into_iter().enumerate().flat_map(|(index, lesson)| lesson_cases(index, lesson)));
+    cases.extend(text_cases());
     cases.extend(special_cases(seeds, records));
     cases.extend(count_cases(seeds, records));
     cases
@@ -272,6 +301,28 @@ fn lesson_cases(index: usize, lesson: Vec<u8>) -> [Box<dyn Case>; 2] {
         Box::new(ListCase::new(format!("openings file {index}"), lesson.clone(), lesson_calls, called)),
         Box::new(ListCase::new(format!("openings file {index} replayed"), lesson, lesson_replies, replied)),
     ]
+}
+
+/// Texts to bytes, and bytes to texts.
+fn text_cases() -> Vec<Box<dyn Case>> {
+    let line = |place: usize, _: &_| format!("line {place}");
+    let read = |name: String, text: Vec<u8>| {
+        let whole = |_, _: &_| "whole".into();
+        Box::new(ListCase::new(name, text, |text| vec![script_of(text)], whole)) as Box<dyn Case>
+    };
+    let write = |name: String, script: Vec<u8>| {
+        let line = |place: usize, _: &_| format!("line {place}");
+        Box::new(ListCase::new(name, script, text_writer::write, line)) as Box<dyn Case>
+    };
+    let bad = ListCase::new("bad-lines seed 1".into(), bad_lines(1, BAD_LINES), scripts_of_lines, line);
+    let mut cases: Vec<Box<dyn Case>> = vec![Box::new(bad)];
+    let edges = edge_texts().into_iter().enumerate();
+    cases.extend(edges.map(|(index, text)| read(format!("edge-texts file {index}"), text)));
+    cases.push(read("a repeat of 60,001 bytes".into(), repeat_of(60_001)));
+    cases.push(read("lesson-lines seed 1".into(), lesson_lines(1, LESSON_LINES)));
+    cases.push(write("any seed 1 as text".into(), generate(1, WORDED_RECORDS, Kind::Any)));
+    cases.extend((0..16).map(|index| write(format!("malformed seed 1 file {index} as text"), broken_script(1, index))));
+    cases
 }
 
 /// Filters of all kinds by every seed, the lessons by one.

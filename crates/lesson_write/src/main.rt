@@ -234,7 +234,7 @@ fn with_line(
     held: &mut [u8],
     out: &mut [u8],
 ) -> Progress {
-    let m = lines::meaning(line);
+    let m = lines::meaning_of(line);
     if !is_allowed(p, line, m) {
         return stopped(p);
     }

@@ -5,7 +5,6 @@ use Prim.Native.Nat.{ℕ, _%_}
 use lib.Dec.{eqb, ltb}
 use Rattle.model.specs.Base.{pick}
 use Rattle.names.specs.Scan.{wordAt}
-use Rattle.names.specs.declared.scan.Word.{Word}
 use Rattle.names.specs.declared.Group.the-variants.{Lines, Expectations}
 use Rattle.lines.specs.Numbers.{isNumber, number, name}
 use Rattle.lines.specs.Parts.{isEmpty, begun, allWords}

@@ -1,7 +1,7 @@
 -- A frame as can-utils writes it: docs/LESSONS.md, "Steps", FRAME. The identifier word is that of a receive mailbox: 01, "Frames".
-use mathlib.Core.Bool.{Bool, true, _&&_, _||_, not}
+use mathlib.Core.Bool.{true, _&&_, _||_, not}
 use mathlib.Core.List.{List}
-use Prim.Native.Nat.{ℕ, _+_, _-_, _*_, _/_, _%_, _^_}
+use Prim.Native.Nat.{ℕ, _-_, _+_, _*_, _/_, _%_, _^_}
 use lib.Dec.{eqb, ltb, leb}
 use Rattle.model.specs.Base.{pick}
 use Rattle.model.specs.declared.WideFrame.{WideFrame}

@@ -1,4 +1,5 @@
 -- What a line of a lesson means: docs/LESSONS.md. A line comes without its line end.
+use mathlib.Core.Bool.{false}
 use mathlib.Core.List.{List}
 use Prim.Native.Nat.{ℕ}
 use lib.Dec.{eqb, ltb}
@@ -16,7 +17,7 @@ use Rattle.lines.specs.declared.frames.Spelled.{Spelled}
 use Rattle.lines.specs.declared.parts.Kind.the-variants as kinds
 use Rattle.lines.specs.declared.parts.Part.{Part}
 use Rattle.lines.specs.declared.Meaning.{Meaning}
-use Rattle.lines.specs.declared.Meaning.the-variants.{Nothing, Step, Bytes, Expect, Repeat, Done, Bad}
+use Rattle.lines.specs.declared.Meaning.the-variants.{Nothing, Step, Bytes, Repeat, Done}
 
 -- ---- register accesses: a register is a name or a number of 16 bits; rule 4
 
@@ -101,5 +102,5 @@ lineOf s n w =
     (pick (eqb n 14) (bytesLine s (w .to))
     (bad (w .from) 1 0))))))))))))))
 
-unfoldable pub meaning : List ℕ → Meaning
-meaning s = pick (isEmpty (wordAt s 0)) Nothing (lineOf s (name s (wordAt s 0) Steps) (wordAt s 0))
+unfoldable pub meaningOf : List ℕ → Meaning
+meaningOf s = pick (isEmpty (wordAt s 0)) Nothing (lineOf s (name s (wordAt s 0) Steps) (wordAt s 0))

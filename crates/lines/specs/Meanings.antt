@@ -1,9 +1,9 @@
 -- What a line can mean, and where it is no line of a lesson.
 use mathlib.Core.Bool.{Bool, _&&_, _||_, not}
-use mathlib.Core.List.{List, [], _∷_}
+use mathlib.Core.List.{List}
 use Prim.Native.Nat.{ℕ}
 use lib.Dec.{eqb}
-use Rattle.model.specs.Base.{pick, one}
+use Rattle.model.specs.Base.{pick}
 use Rattle.model.specs.declared.Answer.{Answer}
 use Rattle.names.specs.Scan.{wordAt}
 use Rattle.lines.specs.Parts.{isEmpty}

@@ -23,11 +23,11 @@ isNumber s w = ltb (w .from) (w .to) && ltb (digitOf (byteAt s (w .from))) 10
 abbrev pub isHex : List ℕ → Word → Bool
 isHex s w = eqb (byteAt s (behind (w .from) 1)) 120 && eqb (byteAt s (w .from)) 48 && ltb (behind (w .from) 2) (w .to)
 
+unfoldable pub digitsOf : List ℕ → Word → ℕ
+digitsOf s w = pick (isHex s w) (value s (behind (w .from) 2) (w .to) true) (value s (w .from) (w .to) false)
+
 unfoldable pub number : List ℕ → Word → ℕ
-number s w =
-    pick (isNumber s w)
-    (pick (isHex s w) (value s (behind (w .from) 2) (w .to) true) (value s (w .from) (w .to) false))
-    noNumber
+number s w = pick (isNumber s w) (digitsOf s w) noNumber
 
 abbrev pub nameOf : Found → ℕ
 nameOf f = pick (eqb (f .row) none) noNumber (place f)

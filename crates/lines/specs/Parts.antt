@@ -2,7 +2,7 @@
 -- "Steps", VALUE, and "What is expected".
 use mathlib.Core.Bool.{Bool, true, false, _&&_, _||_, not}
 use mathlib.Core.List.{List}
-use Prim.Native.Nat.{ℕ, zero, suc, _+_, _-_, _*_, _/_, _%_, _^_, min}
+use Prim.Native.Nat.{ℕ, _-_, zero, suc, _+_, _*_, _/_, _%_, _^_}
 use lib.Dec.{eqb, ltb, leb}
 use lib.ListN.{length}
 use Rattle.model.specs.Base.{pick}
@@ -35,26 +35,33 @@ passed x p = record { place = p; word = x .word; given = x .given; numbered = x 
 
 -- ---- bits
 
+-- 2 to the n; beyond 32 it is no more
 abbrev pub power : ℕ → ℕ
-power n = 2 ^ min n 32
+power n = pick (ltb 32 n) (2 ^ 32) (2 ^ n)
 
--- n in the bits from the one worth `bit` on, which have so many values
+-- one of the bits from the one worth `bit` on, which have so many values, is given already
+unfoldable pub isGiven : Part → ℕ → ℕ → Bool
+isGiven x bit range = not (eqb (x .given / bit % range) 0)
+
+-- the bits of a number stay as they are
+unfoldable pub wordWith : Part → ℕ → ℕ → ℕ
+wordWith x n bit = pick (x .numbered) (x .word) ((x .word + n * bit) % 2 ^ 32)
+
 abbrev pub given : Part → ℕ → ℕ → ℕ → ℕ → Part
 given x p n bit range = record {
   place = p;
-  word = (x .word + n * bit) % 2 ^ 32;
+  word = wordWith x n bit;
   given = (x .given + (range - 1) * bit) % 2 ^ 32;
-  numbered = false;
+  numbered = x .numbered;
   rule = 0;
   number = 0;
 }
 
--- the word at place p says n, and ends at place q. Behind a number the bits must be n, rule 8; else none of them was given, rule 7.
+-- the word at place p gives n to these bits, and ends at place q; in a number they must be n: rule 8
 unfoldable pub withBits : Part → ℕ → ℕ → ℕ → ℕ → ℕ → Part
 withBits x p q n bit range =
-    pick (x .numbered)
-    (pick (eqb (x .word / bit % range) n) (passed x q) (broken p 8 (x .word / bit % range % 2 ^ 32)))
-    (pick (eqb (x .given / bit % range) 0) (given x q n bit range) (broken p 7 0))
+    pick (x .numbered && not (eqb (x .word / bit % range) n)) (broken p 8 (x .word / bit % range % 2 ^ 32))
+    (given x q n bit range)
 
 -- ---- a field
 
@@ -65,13 +72,19 @@ numberBehind s p size =
     (record { number = pick (eqb size 1) 1 noNumber; from = wordAt s p .from; to = p })
 
 -- a number that the field can't hold: rule 3
-abbrev pub fieldOf : Part → Word → Found → ℕ → Behind → Part
-fieldOf x w f size v =
-    pick (leb (power size) (v .number)) (broken (v .from) 3 (power size - 1))
-    (withBits x (w .from) (v .to) (v .number) (power (tables.place f)) (power size))
+abbrev pub fieldOf : Part → Word → ℕ → ℕ → Behind → Part
+fieldOf x w bit range v =
+    pick (leb range (v .number)) (broken (v .from) 3 (range - 1))
+    (withBits x (w .from) (v .to) (v .number) bit range)
+
+-- a bit that is given already: rule 7
+abbrev pub fieldAt : List ℕ → Part → Word → ℕ → ℕ → Part
+fieldAt s x w bit size =
+    pick (isGiven x bit (power size)) (broken (w .from) 7 0)
+    (fieldOf x w bit (power size) (numberBehind s (w .to) size))
 
 unfoldable pub withField : List ℕ → Part → Word → Found → Part
-withField s x w f = fieldOf x w f (tables.number (f .row) Size) (numberBehind s (w .to) (tables.number (f .row) Size))
+withField s x w f = fieldAt s x w (power (tables.place f)) (tables.number (f .row) Size)
 
 -- no field of the register at this offset: rule 6
 abbrev pub fieldFound : List ℕ → Part → Word → ℕ → Found → Part
@@ -84,7 +97,10 @@ field s x w o = fieldFound s x w o (tables.named s w (Fields (tables.registerAt 
 
 -- no interrupt line: rule 17
 unfoldable pub line : List ℕ → Part → Word → Part
-line s x w = pick (ltb 3 (name s w Lines)) (broken (w .from) 17 0) (withBits x (w .from) (w .to) 1 (power (name s w Lines)) 2)
+line s x w =
+    pick (ltb 3 (name s w Lines)) (broken (w .from) 17 0)
+    (pick (isGiven x (power (name s w Lines)) 2) (broken (w .from) 7 0)
+    (withBits x (w .from) (w .to) 1 (power (name s w Lines)) 2))
 
 -- rule 15
 unfoldable pub pairs : List ℕ → Part → Word → Part
@@ -114,13 +130,15 @@ allWords s k x = wordsOn s k x (length s)
 
 -- ---- what a register is written
 
+-- a number of more than 32 bits: rule 3
+unfoldable pub numberFirst : List ℕ → Word → Part
+numberFirst s w = pick (ltb 4294967295 (number s w)) (broken (w .from) 3 4294967295) (begun (w .to) (number s w) true)
+
 -- a number first, or fields alone; nothing: rule 5
 unfoldable pub valueBegun : List ℕ → ℕ → ℕ → Part
 valueBegun s p o =
     pick (isEmpty (wordAt s p)) (broken (wordAt s p .from) 5 o)
-    (pick (isNumber s (wordAt s p))
-    (pick (ltb 4294967295 (number s (wordAt s p))) (broken (wordAt s p .from) 3 4294967295) (begun (wordAt s p .to) (number s (wordAt s p)) true))
-    (begun p 0 false))
+    (pick (isNumber s (wordAt s p)) (numberFirst s (wordAt s p)) (begun p 0 false))
 
 unfoldable pub value : List ℕ → ℕ → ℕ → Part
 value s p o = allWords s (kinds.Fields o) (valueBegun s p o)

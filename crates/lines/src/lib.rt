@@ -244,8 +244,8 @@ fn line_of(s: &[u8], step: u64, w: Word) -> Meaning
 }
 
 // What a line means, without its line end.
-pub fn meaning(s: &[u8]) -> Meaning
-    ensures { λ r. ⌜ r ≡ lines.meaning (now (s .entry)) ⌝ }
+pub fn meaning_of(s: &[u8]) -> Meaning
+    ensures { λ r. ⌜ r ≡ lines.meaningOf (now (s .entry)) ⌝ }
 {
     let w = word_at(s, 0);
     if is_empty(w) {

@@ -17,19 +17,26 @@ pub(crate) fn is_number(s: &[u8], w: Word) -> bool
     (w.from < w.to) & (digit_of(byte_at(s, w.from)) < 10)
 }
 
-// A word as a number: hex digits behind 0x, or decimal ones.
-pub(crate) fn number(s: &[u8], w: Word) -> u64
-    ensures { λ r. ⌜ r ≡ numbers.number (now (s .entry)) w ⌝ }
+// Hex digits behind 0x, or decimal ones.
+fn digits_of(s: &[u8], w: Word) -> u64
+    ensures { λ r. ⌜ r ≡ numbers.digitsOf (now (s .entry)) w ⌝ }
 {
-    if !is_number(s, w) {
-        return NO_NUMBER;
-    }
     let digits = std::num::wrapping_add_usize(w.from, 2);
     let x = byte_at(s, std::num::wrapping_add_usize(w.from, 1));
     if (x == b'x') & (byte_at(s, w.from) == b'0') & (digits < w.to) {
         return value(s, digits, w.to, true);
     }
     value(s, w.from, w.to, false)
+}
+
+// A word as a number.
+pub(crate) fn number(s: &[u8], w: Word) -> u64
+    ensures { λ r. ⌜ r ≡ numbers.number (now (s .entry)) w ⌝ }
+{
+    if is_number(s, w) {
+        return digits_of(s, w);
+    }
+    NO_NUMBER
 }
 
 // What a name of a group stands for.

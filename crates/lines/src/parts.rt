@@ -99,30 +99,41 @@ pub(crate) fn power(n: u64) -> u64
     1 << n
 }
 
-// A word at a place gives n to the bits from `bit` on, of which there are so many values, and ends at another.
+// Whether one of the bits from `bit` on, which have so many values, is given already.
+fn is_given(p: Part, bit: u64, range: u64) -> bool
+    requires { ⌜ (0 < bit) × (0 < range) ⌝ }
+    ensures { λ r. ⌜ r ≡ parts.isGiven p bit range ⌝ }
+{
+    (p.given as u64) / bit % range != 0
+}
+
+// The bits of a number stay as they are.
+fn word_with(p: Part, n: u32, bit: u64) -> u32
+    requires { ⌜ bit ≤ 2 ^ 32 ⌝ }
+    ensures { λ r. ⌜ r ≡ parts.wordWith p n bit ⌝ }
+{
+    if p.numbered {
+        return p.word;
+    }
+    let sum = (p.word as u64) + (n as u64) * bit;
+    (sum % 4294967296) as u32
+}
+
+// A word at a place gives n to these bits, and ends at another place; in a number they must be n.
 fn with_bits(p: Part, at: usize, next: usize, n: u32, bit: u64, range: u64) -> Part
     requires { ⌜ (0 < bit) × ((bit ≤ 2 ^ 32) × ((0 < range) × (range ≤ 2 ^ 32))) ⌝ }
     ensures { λ r. ⌜ r ≡ parts.withBits p at next n bit range ⌝ }
 {
-    let word = p.word as u64;
-    let given = p.given as u64;
-    if p.numbered {
-        let value = word / bit % range;
-        if value != (n as u64) {
-            return broken(at, OTHER_VALUE, (value % 4294967296) as u32);
-        }
-        return passed(p, next);
+    let value = (p.word as u64) / bit % range;
+    if p.numbered & (value != (n as u64)) {
+        return broken(at, OTHER_VALUE, (value % 4294967296) as u32);
     }
-    if given / bit % range != 0 {
-        return broken(at, TWICE, 0);
-    }
-    let sum = word + (n as u64) * bit;
-    let all = given + (range - 1) * bit;
+    let all = (p.given as u64) + (range - 1) * bit;
     Part {
         place: next,
-        word: (sum % 4294967296) as u32,
+        word: word_with(p, n, bit),
         given: (all % 4294967296) as u32,
-        numbered: false,
+        numbered: p.numbered,
         rule: 0,
         number: 0,
     }
@@ -166,12 +177,16 @@ fn with_field(s: &[u8], p: Part, w: Word, f: Found) -> Part
 {
     let size = names::number(f.row, Column::Size);
     let range = power(size as u64);
+    let bit = power(names::place(f));
+    if is_given(p, bit, range) {
+        return broken(w.from, TWICE, 0);
+    }
     let v = number_behind(s, w.to, size);
     let n = v.number;
     if range <= n {
         return broken(v.from, WANTS_NUMBER, (range - 1) as u32);
     }
-    with_bits(p, w.from, v.to, n as u32, power(names::place(f)), range)
+    with_bits(p, w.from, v.to, n as u32, bit, range)
 }
 
 // ---- one word more
@@ -195,7 +210,11 @@ fn line(s: &[u8], p: Part, w: Word) -> Part
     if 3 < n {
         return broken(w.from, WANTS_LINES, 0);
     }
-    with_bits(p, w.from, w.to, 1, power(n), 2)
+    let bit = power(n);
+    if is_given(p, bit, 2) {
+        return broken(w.from, TWICE, 0);
+    }
+    with_bits(p, w.from, w.to, 1, bit, 2)
 }
 
 fn pairs(s: &[u8], p: Part, w: Word) -> Part
@@ -241,6 +260,16 @@ pub(crate) fn all_words(s: &[u8], k: Kind, p: Part) -> Part
 
 // ---- lines
 
+fn number_first(s: &[u8], w: Word) -> Part
+    ensures { λ r. ⌜ r ≡ parts.numberFirst (now (s .entry)) w ⌝ }
+{
+    let n = number(s, w);
+    if 4294967295 < n {
+        return broken(w.from, WANTS_NUMBER, 4294967295);
+    }
+    begun(w.to, n as u32, true)
+}
+
 // What a register is written: a number, fields, or both.
 fn value_begun(s: &[u8], place: usize, offset: u32) -> Part
     ensures { λ r. ⌜ r ≡ parts.valueBegun (now (s .entry)) place offset ⌝ }
@@ -249,14 +278,10 @@ fn value_begun(s: &[u8], place: usize, offset: u32) -> Part
     if is_empty(w) {
         return broken(w.from, WANTS_VALUE, offset);
     }
-    if !is_number(s, w) {
-        return begun(place, 0, false);
+    if is_number(s, w) {
+        return number_first(s, w);
     }
-    let n = number(s, w);
-    if 4294967295 < n {
-        return broken(w.from, WANTS_NUMBER, 4294967295);
-    }
-    begun(w.to, n as u32, true)
+    begun(place, 0, false)
 }
 
 fn written(s: &[u8], place: usize, offset: u32) -> Meaning

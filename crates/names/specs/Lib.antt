@@ -1,3 +1,4 @@
 pub mod Scan
 pub mod Rows
 pub mod Table
+pub mod Told

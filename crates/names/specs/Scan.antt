@@ -11,7 +11,7 @@ use Rattle.names.specs.declared.scan.Class.the-variants.{Blank, NoBlank,
 use Rattle.names.specs.declared.scan.Word.{Word}
 
 unfoldable pub byteAt : List ℕ → ℕ → ℕ
-byteAt s i = pick (ltb i (length s)) (getD s i 0) 32
+byteAt s i = getD s i 32
 
 -- n places on
 abbrev pub behind : ℕ → ℕ → ℕ

@@ -1,0 +1,11 @@
+use mathlib.Core.Path.{refl}
+use Rattle.lines.specs.Meanings.{holds}
+use Rattle.lines.proofs.holds.Statement.{statement}
+use Rattle.lines.proofs.holds.Tie as tie
+
+returns : tie.Need-returns
+unfolding holds
+returns c = refl
+
+pub holds-spec : {M : Type 1} → statement M
+holds-spec = tie.close (tie.spec returns)

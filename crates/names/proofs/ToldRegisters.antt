@@ -1,0 +1,168 @@
+-- The registers of the table are the model's. The numbers of the 23 rows are computed once; below 0x400 every offset is tried, and
+-- from there on no row and no register of the model reaches.
+use mathlib.Core.Bool.{Bool, true, false, not, _&&_, _||_, true≢false, false≢true}
+use mathlib.Core.Path.{_≡_, refl}
+use mathlib.Core.List.{List, [], _∷_}
+use Prim.Native.Nat.{ℕ, zero, suc, _+_, _-_, _*_, _/_, _%_, _<_, _≤_}
+use native.Mathlib.Nat.{le-div-iff-mul-le}
+use native.Mathlib.Omega.{arith}
+use lib.Dec.{eqb, ltb, leb}
+use lib.ListN.{getD}
+use borrow.Author.Tests.{eqb-true, ltb-true, ltb-false, leb-true, le-ltb, le-leb, ne-eqb}
+use Rattle.model.specs.Base.{pick}
+use Rattle.model.specs.Registers as model
+use Rattle.model.specs.Registers.{isAbsent, controlRegister, mailboxRegister, outputRegister, blockRegister, bankRegister, filterRegister}
+use Rattle.model.specs.declared.Register.the-variants.{Absent}
+use Rattle.model.proofs.Choices.{Is, and-l, and-r, pick-cases}
+use Rattle.model.proofs.Bounded.{allBelow, each-below}
+use Rattle.names.specs.Rows as rows
+use Rattle.names.specs.Rows.{nowhere, indexAt, isAt, registerOn}
+use Rattle.names.specs.Table.{table, number, place, registerAt}
+use Rattle.names.specs.Told.{lookedUp, registerName, RegisterNames}
+use Rattle.names.specs.declared.rows.Found.{Found}
+use Rattle.names.specs.declared.rows.Column.{Column}
+use Rattle.names.specs.declared.rows.Column.the-variants.{Place, Size, Count}
+use Rattle.names.specs.declared.Group.the-variants.{Registers}
+use Rattle.names.proofs.Lookups.{upAlong, up-along}
+use Rattle.names.proofs.ToldNames.{lookups}
+
+-- ---- the rows as numbers
+
+abbrev places : List ℕ
+places = 0x000 ∷ 0x004 ∷ 0x008 ∷ 0x00C ∷ 0x010 ∷ 0x014 ∷ 0x018 ∷ 0x01C ∷ 0x180 ∷ 0x184 ∷ 0x188 ∷ 0x18C ∷ 0x1B0 ∷ 0x1B4 ∷ 0x1B8 ∷ 0x1BC ∷ 0x200 ∷ 0x204 ∷ 0x20C ∷ 0x214 ∷ 0x21C ∷ 0x240 ∷ 0x244 ∷ []
+
+abbrev sizes : List ℕ
+sizes = 4 ∷ 4 ∷ 4 ∷ 4 ∷ 4 ∷ 4 ∷ 4 ∷ 4 ∷ 16 ∷ 16 ∷ 16 ∷ 16 ∷ 16 ∷ 16 ∷ 16 ∷ 16 ∷ 4 ∷ 4 ∷ 4 ∷ 4 ∷ 4 ∷ 8 ∷ 8 ∷ []
+
+abbrev counts : List ℕ
+counts = 1 ∷ 1 ∷ 1 ∷ 1 ∷ 1 ∷ 1 ∷ 1 ∷ 1 ∷ 3 ∷ 3 ∷ 3 ∷ 3 ∷ 2 ∷ 2 ∷ 2 ∷ 2 ∷ 1 ∷ 1 ∷ 1 ∷ 1 ∷ 1 ∷ 14 ∷ 14 ∷ []
+
+abbrev place′ : ℕ → ℕ
+place′ row = getD places row 0
+
+abbrev size′ : ℕ → ℕ
+size′ row = getD sizes row 0
+
+abbrev count′ : ℕ → ℕ
+count′ row = getD counts row 0
+
+all-known : (c : Column) (l : List ℕ) → Is (allBelow (λ (row : ℕ). eqb (rows.number table row c) (getD l row 0)) 23)
+    → (row : ℕ) → row < 23 → rows.number table row c ≡ getD l row 0
+all-known c l t row h = eqb-true (rows.number table row c) (getD l row 0) (each-below (λ (row : ℕ). eqb (rows.number table row c) (getD l row 0)) 23 t row h)
+
+known-place : (row : ℕ) → row < 23 → rows.number table row Place ≡ place′ row
+unfolding lookups allBelow
+known-place = all-known Place places refl
+
+known-size : (row : ℕ) → row < 23 → rows.number table row Size ≡ size′ row
+unfolding lookups allBelow
+known-size = all-known Size sizes refl
+
+known-count : (row : ℕ) → row < 23 → rows.number table row Count ≡ count′ row
+unfolding lookups allBelow
+known-count = all-known Count counts refl
+
+-- no row reaches 0x400
+abbrev low : ℕ → Bool
+low row = ltb 0 (size′ row) && leb (place′ row + count′ row * size′ row) 0x400
+
+all-low : Is (allBelow low 23)
+unfolding allBelow
+all-low = refl
+
+-- ---- the same walk over these numbers
+
+abbrev indexIn : ℕ → ℕ → ℕ → ℕ → ℕ
+indexIn p s c o = pick (ltb o p || eqb s 0) c (pick (not (eqb ((o - p) % s) 0)) c ((o - p) / s))
+
+unfoldable along : ℕ → ℕ → ℕ → Found
+along o row zero = nowhere
+along o row (suc n) =
+    pick (ltb (indexIn (place′ row) (size′ row) (count′ row) o) (count′ row))
+    (record { row = row; index = indexIn (place′ row) (size′ row) (count′ row) o })
+    (along o (row + 1) n)
+
+walked : (o row n : ℕ) → row + n ≤ 23 → registerOn table o row n ≡ along o row n
+unfolding registerOn isAt indexAt along
+walked o row zero h = refl
+walked o row (suc n) h =
+    rw (known-place row (omega arith), known-size row (omega arith), known-count row (omega arith), walked o (row + 1) n (omega arith))
+
+register-along : (o : ℕ) → registerAt o ≡ along o 0 23
+unfolding registerAt rows.registerAt
+register-along o = walked o 0 23 (omega arith)
+
+-- ---- from 0x400 on
+
+reaches : (p s c o : ℕ) → 0 < s → p + c * s ≤ 0x400 → 0x400 ≤ o → c ≤ indexIn p s c o
+reaches p s c o h k l =
+    pick-cases (λ (i : ℕ). c ≤ i) (ltb o p || eqb s 0) _ _ (λ _. omega arith)
+    (λ _. pick-cases (λ (i : ℕ). c ≤ i) (not (eqb ((o - p) % s) 0)) _ _ (λ _. omega arith) (λ _. (le-div-iff-mul-le h) .1 (omega arith)))
+
+nothing-above : (o row n : ℕ) → 0x400 ≤ o → row + n ≤ 23 → along o row n ≡ nowhere
+unfolding along
+nothing-above o row zero l h = refl
+nothing-above o row (suc n) l h =
+    let k = each-below low 23 all-low row (omega arith) in
+    let s = ltb-true 0 (size′ row) (and-l (ltb 0 (size′ row)) _ k) in
+    let e = leb-true (place′ row + count′ row * size′ row) 0x400 (and-r (ltb 0 (size′ row)) _ k) in
+    rw (le-ltb (indexIn (place′ row) (size′ row) (count′ row) o) (count′ row) (reaches (place′ row) (size′ row) (count′ row) o s e l)) (nothing-above o (row + 1) n l (omega arith))
+
+absent-above : (o : ℕ) → 0x400 ≤ o → model.registerAt o ≡ Absent
+unfolding model.registerAt filterRegister
+absent-above o l = simp (le-ltb o 0x20 (omega arith), le-ltb o 0x200 (omega arith), ne-eqb o 0x200 (λ e. omega arith), ne-eqb o 0x204 (λ e. omega arith), ne-eqb o 0x20C (λ e. omega arith), ne-eqb o 0x214 (λ e. omega arith), ne-eqb o 0x21C (λ e. omega arith), le-leb 0x240 o (omega arith), le-ltb o 0x2B0 (omega arith))
+
+-- ---- every offset
+
+-- f is found by the offset o, g by the name of the model's register there, which may be absent
+unfoldable agrees : Bool → Found → Found → ℕ → Bool
+agrees true f g o = eqb (f .row) 163
+agrees false f g o = ltb (f .row) 163 && (eqb (g .row) (f .row) && (eqb (g .index) (f .index) && eqb (place g) o))
+
+abbrev nameAt : ℕ → List ℕ
+nameAt o = registerName (model.registerAt o)
+
+abbrev agreesAlong : ℕ → Bool
+agreesAlong o = agrees (isAbsent (model.registerAt o)) (along o 0 23) (upAlong (nameAt o) Registers) o
+
+all-below : Is (allBelow agreesAlong 0x400)
+unfolding lookups allBelow agrees along registerName model.registerAt controlRegister blockRegister mailboxRegister outputRegister filterRegister bankRegister
+all-below = refl
+
+agreed-above : (o : ℕ) → 0x400 ≤ o → Is (agrees (isAbsent (model.registerAt o)) (registerAt o) (lookedUp (nameAt o) Registers) o)
+unfolding agrees
+agreed-above o l = rw (absent-above o l, register-along o, nothing-above o 0 23 l (omega arith))
+
+agreed : (o : ℕ) → Is (agrees (isAbsent (model.registerAt o)) (registerAt o) (lookedUp (nameAt o) Registers) o)
+agreed o = go (ltb o 0x400) refl
+  where
+    go : (b : Bool) → ltb o 0x400 ≡ b → Is (agrees (isAbsent (model.registerAt o)) (registerAt o) (lookedUp (nameAt o) Registers) o)
+    go true e = rw (register-along o, up-along (nameAt o) Registers) (each-below agreesAlong 0x400 all-below o (ltb-true o 0x400 e))
+    go false e = agreed-above o (ltb-false o 0x400 e)
+
+module _ (f g : Found) (o : ℕ) where
+  none-there : (a : Bool) → Is (agrees a f g o) → a ≡ true → f .row ≡ 163
+  unfolding agrees
+  none-there true t e = eqb-true (f .row) 163 t
+  none-there false t e = absurd (false≢true e)
+
+  one-there : (a : Bool) → Is (agrees a f g o) → a ≡ false → (f .row < 163) × ((g .row ≡ f .row) × ((g .index ≡ f .index) × (place g ≡ o)))
+  unfolding agrees
+  one-there true t e = absurd (true≢false e)
+  one-there false t e =
+      let r = and-r (ltb (f .row) 163) (eqb (g .row) (f .row) && (eqb (g .index) (f .index) && eqb (place g) o)) t in
+      let i = and-r (eqb (g .row) (f .row)) (eqb (g .index) (f .index) && eqb (place g) o) r in (
+        ltb-true (f .row) 163 (and-l (ltb (f .row) 163) _ t),
+        (eqb-true (g .row) (f .row) (and-l (eqb (g .row) (f .row)) _ r), (eqb-true (g .index) (f .index) (and-l (eqb (g .index) (f .index)) _ i), eqb-true (place g) o (and-r (eqb (g .index) (f .index)) _ i))),
+      )
+
+pub register-names : (o : ℕ) → RegisterNames o
+register-names o =
+    let there = one-there (registerAt o) (lookedUp (nameAt o) Registers) o (isAbsent (model.registerAt o)) (agreed o) in
+    record {
+      absent = none-there (registerAt o) (lookedUp (nameAt o) Registers) o (isAbsent (model.registerAt o)) (agreed o);
+      present = λ e. there e .0;
+      row = λ e. there e .1 .0;
+      index = λ e. there e .1 .1 .0;
+      offset = λ e. there e .1 .1 .1;
+    }

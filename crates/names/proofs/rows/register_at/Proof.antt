@@ -1,0 +1,62 @@
+use mathlib.Core.Path.{_≡_, refl, sym, _∙_}
+use Prim.Native.Nat.{_-_}
+use borrow.Author.Needs.{needs}
+use Rattle.names.specs.Rows as rows
+use Rattle.names.proofs.Loops.{register-on, register-stops, register-ended}
+use Rattle.names.proofs.rows.register_at.Statement.{statement}
+use Rattle.names.proofs.rows.register_at.Tie as tie
+
+abbrev Inv-loop : tie.InvT-loop
+Inv-loop t offset row₀ row = rows.registerOn t offset row (23 - row) ≡ rows.registerAt t offset
+
+abbrev μ-loop : tie.MeasureT-loop
+μ-loop t offset row₀ row = 23 - row
+
+loop-holds : tie.Need-loop-holds Inv-loop μ-loop
+unfolding rows.registerAt
+loop-holds c = refl
+
+is-at-requires : tie.Need-is-at-requires Inv-loop μ-loop
+is-at-requires c κs = search needs
+
+index-at-requires : tie.Need-index-at-requires Inv-loop μ-loop
+index-at-requires c κs = search needs
+
+returns : tie.Need-returns Inv-loop μ-loop
+returns c =
+    let a = c .before .before .before .before .before .before .args in
+    let l = c .before .before .before .before .loop in
+    rw (c .index-at .ensures) (sym (register-stops (a .t .now) (a .offset) (l .row) 23 (c .before .before .before .loop-test .taken) (cc)) ∙ l .inv)
+
+add-row : tie.Need-add-row Inv-loop μ-loop
+add-row c = search needs
+
+loop-less : tie.Need-loop-less Inv-loop μ-loop
+loop-less c = search needs
+
+loop-again : tie.Need-loop-again Inv-loop μ-loop
+loop-again c =
+    let a = c .before .before .before .before .before .args in
+    let l = c .before .before .before .loop in
+    sym (register-on (a .t .now) (a .offset) (l .row) 23 (c .before .before .loop-test .taken) (cc)) ∙ l .inv
+
+returns-2 : tie.Need-returns-2 Inv-loop μ-loop
+returns-2 c =
+    let a = c .before .before .before .args in
+    let l = c .before .loop in
+    sym (register-ended (a .t .now) (a .offset) (l .row) 23 (c .loop-test .left)) ∙ l .inv
+
+pub register-at-spec : {M : Type 1} → statement M
+register-at-spec =
+    tie.close
+    (tie.spec
+    Inv-loop
+    μ-loop
+    loop-holds
+    is-at-requires
+    index-at-requires
+    returns
+    add-row
+    loop-less
+    loop-again
+    returns-2)
