@@ -1,5 +1,5 @@
 // How many filters each search of the filters compares in a bench script: a line for each record that has a search. The script comes
-// on standard input, in pieces, the text goes to standard output.
+// on standard input, in pieces, the text goes to standard output. With --lesson it must open with the record of a hardware reset.
 use account::faults::Fault;
 use bits::least;
 use libc::STDERR_FILENO;
@@ -93,22 +93,24 @@ fn sent(l: Line, file: i32) -> bool {
 
 // ---- a turn of the loop
 
-// The text waits to go out.
+// The text waits to go out; a lesson's opening is read, or none is asked for.
 struct Session {
     controller: Controller,
     input: Input,
     counts: Counts,
     text: Line,
+    opened: bool,
     going: bool,
 }
 
-fn begun() -> Session {
+fn begun(lesson: bool, going: bool) -> Session {
     Session {
         controller: controller::reset(),
         input: stream::nothing_read(),
         counts: no_counts(),
         text: head(),
-        going: true,
+        opened: !lesson,
+        going: going,
     }
 }
 
@@ -184,6 +186,39 @@ fn stepped(s: Session, e: Step, length: usize) -> Session {
     }
 }
 
+fn is_reset(x: Reading) -> bool {
+    match x {
+        Reading::Found(e, _) => match e {
+            Step::Reset => true,
+            _ => false,
+        },
+        _ => false,
+    }
+}
+
+// A lesson that begins with other bytes.
+fn unopened(s: Session, rest: &[u8]) -> Session {
+    sent(
+        wording::unopened_complaint(b"comparisons", rest),
+        STDERR_FILENO,
+    );
+    ended(s)
+}
+
+fn next_record(s: Session, rest: &[u8]) -> Session {
+    let x = records::reading(rest, 0);
+    if !s.opened & !is_reset(x) {
+        return unopened(s, rest);
+    }
+    let mut t = s;
+    t.opened = true;
+    match x {
+        Reading::End => ended(t),
+        Reading::Malformed(code) => unread(t, account::faults::fault_in(code, rest)),
+        Reading::Found(e, length) => stepped(t, e, length),
+    }
+}
+
 // More is read, with all text sent before that, or the next record is looked at.
 fn round(s: Session, space: &mut [u8]) -> Session {
     let i = s.input;
@@ -192,19 +227,13 @@ fn round(s: Session, space: &mut [u8]) -> Session {
     }
     let filled = least(i.filled, space.len());
     let place = least(i.place, filled);
-    let rest = &space[place..filled];
-    let x = records::reading(rest, 0);
-    match x {
-        Reading::End => ended(s),
-        Reading::Malformed(code) => unread(s, account::faults::fault_in(code, rest)),
-        Reading::Found(e, length) => stepped(s, e, length),
-    }
+    next_record(s, &space[place..filled])
 }
 
 // A loop that is proved has to end, and nothing says that the input does: the turns are counted down from a number that
 // no run uses up.
-fn run(space: &mut [u8]) {
-    let mut s = begun();
+fn run(first: Session, space: &mut [u8]) {
+    let mut s = first;
     let mut turns = u64::MAX;
     while 0 < turns && s.going {
         s = round(s, space);
@@ -213,7 +242,23 @@ fn run(space: &mut [u8]) {
     flushed(s);
 }
 
+// Other arguments than --lesson are told, and nothing is read.
+fn arguments() -> Session {
+    let mut text = io::buffer();
+    let length = os::arg(1, &mut text);
+    let lesson = check::same(&text[..length], b"--lesson");
+    let n = os::arg_count();
+    let known = (n < 2) | ((n == 2) & lesson);
+    if !known {
+        complain(b"usage: comparisons [--lesson]\n");
+    }
+    begun(lesson, known)
+}
+
 fn main() {
     let mut space = io::large_buffer();
-    run(&mut space);
+    let first = arguments();
+    if first.going {
+        run(first, &mut space);
+    }
 }

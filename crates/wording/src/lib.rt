@@ -2,7 +2,6 @@
 ghost use Rattle.text.specs.Lines as lines;
 use account::Account;
 use account::faults::Fault;
-use account::places::Place;
 use model::Step;
 use text::Line;
 use text::byte;
@@ -11,8 +10,6 @@ use text::put;
 use text::said;
 
 mod changes; // what a step changed
-mod names; // registers and fields by name
-mod steps; // a step in words
 
 const NUMBER_WIDTH: usize = 7;
 
@@ -34,16 +31,16 @@ pub fn head() -> Line
 // ---- the answer
 
 // The word of a read, the mailbox of a start, or nothing to say.
-fn done(l: Line, e: Step, g: Place, word: u32) -> Line {
+fn done(l: Line, e: Step, word: u32) -> Line {
     match e {
-        Step::Read(_) => names::fields(text::hex(l, word, 8), g, word),
+        Step::Read(o) => phrases::fields(text::hex(l, word, 8), o as u32, word),
         Step::Start => said(l, b"mailbox %", 0, word as u64),
         _ => byte(l, b'-'),
     }
 }
 
-// The reason, with the number of its mailbox or bank.
-fn refused(l: Line, code: u8, reason: u32, index: u32) -> Line {
+// The code and the reason, with the number of its mailbox or bank.
+pub fn refused(l: Line, code: u8, reason: u32, index: u32) -> Line {
     let a = said(l, b"refused %: ", 0, code as u64);
     said(
         a,
@@ -53,13 +50,16 @@ fn refused(l: Line, code: u8, reason: u32, index: u32) -> Line {
     )
 }
 
-// The interrupt lines that are up.
-fn lines(l: Line, up: u8) -> Line {
-    let a = column(l, LINES_COLUMN - 1);
+// The interrupt lines that are up, each with a blank in front, or else what is said of none.
+pub fn lines_up(l: Line, up: u8, none: &[u8]) -> Line {
     if up == 0 {
-        return put(a, b" -");
+        return put(l, none);
     }
-    text::fields(a, b"TX FIFO0 FIFO1 SCE", 0, up as u32, 0)
+    text::fields(l, b"TX FIFO0 FIFO1 SCE", 0, up as u32, 0)
+}
+
+fn lines(l: Line, up: u8) -> Line {
+    lines_up(column(l, LINES_COLUMN - 1), up, b" -")
 }
 
 fn answered(l: Line, e: Step, a: Account) -> Line {
@@ -67,7 +67,7 @@ fn answered(l: Line, e: Step, a: Account) -> Line {
     if a.code != 0 {
         return lines(refused(l, a.code, a.reason, g.index), a.lines);
     }
-    let d = lines(done(l, e, g, a.word), a.lines);
+    let d = lines(done(l, e, a.word), a.lines);
     let t = a.taken;
     let old = a.old;
     let new = a.new;
@@ -80,13 +80,13 @@ fn answered(l: Line, e: Step, a: Account) -> Line {
 pub fn line(n: u64, e: Step, a: Account) -> Line
     ensures { λ r. ⌜ lines.EndsLine r ⌝ }
 {
-    let g = a.place;
     let b = put(text::right(text::empty(), n, NUMBER_WIDTH), b"  ");
-    let c = column(steps::told(b, e, g), ANSWER_COLUMN);
+    let c = column(phrases::step(b, e, true), ANSWER_COLUMN);
     byte(answered(c, e, a), b'\n')
 }
 
-fn fault(l: Line, f: Fault) -> Line {
+// What is wrong with a record that can't be read.
+pub fn fault(l: Line, f: Fault) -> Line {
     let a = said(l, b"refused %: ", 0, f.code as u64);
     let b = said(
         a,
@@ -119,6 +119,55 @@ pub fn complaint(program: &[u8], n: u64, place: u64, f: Fault) -> Line
     let b = said(a, b" at byte %: ", 0, place);
     byte(fault(b, f), b'\n')
 }
+
+// ---- a lesson that doesn't open with a reset
+
+pub fn unopened(l: Line) -> Line {
+    put(l, b"refused 11: a lesson opens with a reset")
+}
+
+// The same as a line, with the interrupt lines that are up.
+pub fn unopened_line(up: u8) -> Line
+    ensures { λ r. ⌜ lines.EndsLine r ⌝ }
+{
+    let a = text::right(text::empty(), 1, NUMBER_WIDTH);
+    let b = put(a, b"  no reset, at byte 0");
+    byte(lines(unopened(column(b, ANSWER_COLUMN)), up), b'\n')
+}
+
+fn pair(l: Line, b: u8) -> Line {
+    text::bytes(l, b as u32, 1)
+}
+
+// A byte of a row as two digits with a blank in front, where the row has it.
+fn byte_of(l: Line, row: &[u8], i: usize) -> Line {
+    if i < row.len() {
+        return pair(l, row[i]);
+    }
+    l
+}
+
+// The same for standard error, by the program that says it, with the bytes that stand there, of which there are at most three.
+pub fn unopened_complaint(program: &[u8], row: &[u8]) -> Line
+    ensures { λ r. ⌜ lines.EndsLine r ⌝ }
+{
+    let a = put(text::empty(), program);
+    let n = row.len();
+    let which = bits::pick_u32(n == 0, 0, bits::pick_u32(n < 3, 1, 2));
+    let b = said(
+        put(
+            a,
+            b": the lesson doesn't open with 01 00 00, the record of a reset: ",
+        ),
+        b"it is empty|it ends after|it begins with|",
+        which,
+        0,
+    );
+    let c = byte_of(byte_of(b, row, 0), row, 1);
+    byte(byte_of(c, row, 2), b'\n')
+}
+
+// ---- the end
 
 // The last line: why and where the trace stopped, how many records there were and how many of them were refused.
 pub fn last(l: Line, why: u32, place: u64, records: u64, refused: u64) -> Line

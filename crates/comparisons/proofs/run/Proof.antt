@@ -11,9 +11,6 @@ Inv-loop space₀ s₀ turns₀ space s turns = length space ≡ length space₀
 abbrev μ-loop : tie.MeasureT-loop
 μ-loop space₀ s₀ turns₀ space s turns = turns
 
-begun-requires : tie.Need-begun-requires Inv-loop μ-loop
-begun-requires c κs = search needs
-
 loop-holds : tie.Need-loop-holds Inv-loop μ-loop
 loop-holds c = search needs
 
@@ -44,7 +41,6 @@ run-spec =
     (tie.spec
     Inv-loop
     μ-loop
-    begun-requires
     loop-holds
     round-requires
     sub-turns

@@ -6,16 +6,13 @@ use Rattle.trace.proofs.run.Statement.{statement}
 use Rattle.trace.proofs.run.Tie as tie
 
 abbrev Inv-loop : tie.InvT-loop
-Inv-loop input₀ out₀ s₀ turns₀ input out s turns = (length input ≡ length input₀) × (length out ≡ length out₀)
+Inv-loop space₀ script₀ out₀ s₀ turns₀ space script out s turns = (length space ≡ length space₀) × ((length script ≡ length script₀) × (length out ≡ length out₀))
 
 abbrev μ-loop : tie.MeasureT-loop
-μ-loop input₀ out₀ s₀ turns₀ input out s turns = turns
+μ-loop space₀ script₀ out₀ s₀ turns₀ space script out s turns = turns
 
 reset-requires : tie.Need-reset-requires Inv-loop μ-loop
 reset-requires c κs = search needs
-
-begun-requires : tie.Need-begun-requires Inv-loop μ-loop
-begun-requires c κs = search needs
 
 head-requires : tie.Need-head-requires Inv-loop μ-loop
 head-requires c κs = search needs
@@ -47,6 +44,9 @@ same-length c = search needs
 same-length-2 : tie.Need-same-length-2 Inv-loop μ-loop
 same-length-2 c = search needs
 
+same-length-3 : tie.Need-same-length-3 Inv-loop μ-loop
+same-length-3 c = search needs
+
 returns : tie.Need-returns Inv-loop μ-loop
 returns c = search needs
 
@@ -57,7 +57,6 @@ run-spec =
     Inv-loop
     μ-loop
     reset-requires
-    begun-requires
     head-requires
     stored-requires
     loop-holds
@@ -68,4 +67,5 @@ run-spec =
     flushed-requires
     same-length
     same-length-2
+    same-length-3
     returns)

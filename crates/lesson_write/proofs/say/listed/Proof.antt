@@ -1,0 +1,57 @@
+use Prim.Native.Nat.{_-_}
+use borrow.Author.Needs.{needs}
+use Rattle.lesson_write.proofs.say.listed.Statement.{statement}
+use Rattle.lesson_write.proofs.say.listed.Tie as tie
+
+abbrev Inv-loop : tie.InvT-loop
+Inv-loop g first m₀ row₀ t6 m row = Unit {0}
+
+abbrev μ-loop : tie.MeasureT-loop
+μ-loop g first m₀ row₀ t6 m row = 163 - row
+
+loop-holds : tie.Need-loop-holds Inv-loop μ-loop
+loop-holds c = search needs
+
+belongs-requires : tie.Need-belongs-requires Inv-loop μ-loop
+belongs-requires c κs = search needs
+
+slice-aggregate-said : tie.Need-slice-aggregate-said Inv-loop μ-loop
+slice-aggregate-said c = search needs
+
+one-requires : tie.Need-one-requires Inv-loop μ-loop
+one-requires c κs = search needs
+
+said-requires : tie.Need-said-requires Inv-loop μ-loop
+said-requires c κs = search needs
+
+name-requires : tie.Need-name-requires Inv-loop μ-loop
+name-requires c κs = search needs
+
+add-row : tie.Need-add-row Inv-loop μ-loop
+add-row c = search needs
+
+loop-less : tie.Need-loop-less Inv-loop μ-loop
+loop-less c = search needs
+
+loop-again : tie.Need-loop-again Inv-loop μ-loop
+loop-again c = search needs
+
+returns : tie.Need-returns Inv-loop μ-loop
+returns c = search needs
+
+pub listed-spec : {M : Type 1} → statement M
+listed-spec =
+    tie.close
+    (tie.spec
+    Inv-loop
+    μ-loop
+    loop-holds
+    belongs-requires
+    slice-aggregate-said
+    one-requires
+    said-requires
+    name-requires
+    add-row
+    loop-less
+    loop-again
+    returns)
