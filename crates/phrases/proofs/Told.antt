@@ -1,12 +1,127 @@
 -- The samples, computed.
 use mathlib.Core.Path.{refl}
-use Rattle.names.specs.Table.{bytes, spelled, table, letter}
-use Rattle.names.specs.Scan.{byteAt, cellLetter}
+use Rattle.model.specs.Records.{fieldBytes, bytesOf}
+use Rattle.model.specs.Reception.{malformed, dataBytes, bytesKept}
+use Rattle.names.specs.Table as tables
+use Rattle.names.specs.Rows as rows
+use Rattle.names.specs.Scan.{byteAt, digitOf, withDigit, valueOn, value, letterOf, letter, cellLetter, sameOn, same}
 use Rattle.text.specs.Numbers.{digits, decimalOn}
-use Rattle.phrases.specs.Names.{letterText, nameOn, nameText}
-use Rattle.phrases.specs.Steps.{stepText}
-use Rattle.phrases.specs.Told.{Samples}
+use Rattle.phrases.specs.Names.{letterText, nameOn, nameText, registerText, isShown, amountText, fieldText, rowOn, rowFields, ownFields, fieldsOn, fieldsOf, allText, restOf, fieldsText, isSaid}
+use Rattle.phrases.specs.Frames.{pairText, pairsText, bytesText, isWorded, identifierText, remoteText, dataText, payloadText, codeText, wordedText, remarkText, unwordedText, frameText}
+use Rattle.phrases.specs.Steps.{writtenText, writeText, resultText, errorText, stepText}
+use Rattle.phrases.specs.Told.{Steps, Registers, Writes, Fields, Frames, Bytes, Samples}
+
+-- what a name and a text unfold to
+unfoldable names : Unit {0}
+unfolding tables.bytes tables.spelled tables.table tables.groupAt tables.registerAt tables.belongs tables.letter tables.number tables.place rows.number rows.belongs rows.indexAt rows.isAt rows.registerOn rows.registerAt byteAt digitOf withDigit valueOn value letterOf letter cellLetter sameOn same
+names = tt
+
+unfoldable texts : Unit {0}
+unfolding names digits decimalOn letterText nameOn nameText registerText isShown amountText fieldText rowOn rowFields ownFields fieldsOn fieldsOf allText restOf fieldsText isSaid writtenText writeText resultText errorText stepText pairText pairsText bytesText isWorded identifierText remoteText dataText payloadText codeText wordedText remarkText unwordedText frameText malformed dataBytes bytesKept fieldBytes bytesOf
+texts = tt
+
+steps : Steps
+unfolding texts
+steps = record {
+  reset = refl;
+  idle = refl;
+  activity = refl;
+  start = refl;
+  none = refl;
+  some = refl;
+  most = refl;
+  good = refl;
+  stuff = refl;
+  form = refl;
+  ack = refl;
+  bit1 = refl;
+  bit0 = refl;
+  crc = refl;
+  lost = refl;
+  unknown = refl;
+  large = refl;
+  error = refl;
+  odd = refl;
+}
+
+registers : Registers
+unfolding texts
+registers = record {
+  first = refl;
+  mailbox = refl;
+  fifo = refl;
+  bank = refl;
+  behind = refl;
+  between = refl;
+  last = refl;
+  alone = refl;
+  noRow = refl;
+}
+
+writes : Writes
+unfolding texts
+writes = record {
+  flags = refl;
+  reserved = refl;
+  nothing = refl;
+  noFields = refl;
+  absent = refl;
+  fullFlags = refl;
+  fullReserved = refl;
+  fullNothing = refl;
+  fullAbsent = refl;
+}
+
+fields : Fields
+unfolding texts
+fields = record {
+  decimals = refl;
+  hexes = refl;
+  times = refl;
+  standard = refl;
+  remote = refl;
+  extended = refl;
+  widest = refl;
+  mixed = refl;
+  fullMixed = refl;
+  modes = refl;
+  pastBanks = refl;
+  active = refl;
+  alone = refl;
+}
+
+frames : Frames
+unfolding texts
+frames = record {
+  standard = refl;
+  low = refl;
+  extended = refl;
+  lowExtended = refl;
+  empty = refl;
+  zeros = refl;
+  eight = refl;
+  nine = refl;
+  fifteen = refl;
+  remote = refl;
+  remoteFive = refl;
+  remoteEight = refl;
+  remoteEleven = refl;
+  remoteExtended = refl;
+  bit0 = refl;
+  lowestBit = refl;
+  highestBit = refl;
+  code = refl;
+  past = refl;
+  pastFour = refl;
+  remoteData = refl;
+}
+
+bytes : Bytes
+unfolding texts
+bytes = record {
+  some = refl;
+  none = refl;
+}
 
 pub samples : Samples
-unfolding bytes spelled table letter byteAt cellLetter digits decimalOn letterText nameOn nameText stepText
-samples = record { reset = refl }
+samples = record { steps = steps; registers = registers; writes = writes; fields = fields; frames = frames; bytes = bytes }

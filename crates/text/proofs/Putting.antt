@@ -66,6 +66,7 @@ module _ (m z : Line) (w k : ℕ) where
     where
       next : k - (i + 1) ≡ k - 1 - i
       next = omega arith
+
       left : k - i ≡ suc (k - 1 - i)
       left = omega arith
 
@@ -94,8 +95,11 @@ decimal-digits k n zero h f = absurd (omega (arith, f .0))
 decimal-digits k n (suc zero) h f = rw (lt-ltb n 10 (omega (arith, f .1)), glyph-is n, mod-eq-of-lt {n = n} {m = 10} (omega (arith, f .1)))
 decimal-digits zero n (suc (suc j)) h f = absurd (omega (arith, h, one-le-pow j 10 (omega arith), more j n f))
 decimal-digits (suc k) n (suc (suc j)) h f =
-    rw (le-ltb n 10 (omega (arith, one-le-pow j 10 (omega arith), more j n f)), glyph-is n,
-    decimal-digits k (n / 10) (suc j) (omega (arith, h, pow-suc 10 (suc k))) (omega arith, omega (arith, f .1, pow-suc 10 (suc j)), less))
+    rw (
+      le-ltb n 10 (omega (arith, one-le-pow j 10 (omega arith), more j n f)),
+      glyph-is n,
+      decimal-digits k (n / 10) (suc j) (omega (arith, h, pow-suc 10 (suc k))) (omega arith, omega (arith, f .1, pow-suc 10 (suc j)), less),
+    )
   where
     less : 1 < suc j → 10 ^ (suc j - 1) ≤ n / 10
     less _ = omega (arith, more j n f, ap (λ (x : ℕ). 10 ^ x) same)

@@ -29,13 +29,13 @@ loop-less : tie.Need-loop-less Inv-loop μ-loop
 loop-less c = search needs
 
 loop-again : tie.Need-loop-again Inv-loop μ-loop
-loop-again c = 
+loop-again c =
     let l = c .before .before .loop in
     row-on (l .t) _ _ _ (l .i) _ _ (c .before .loop-test .taken) (c .with-field .ensures) (l .inv)
 
 returns : tie.Need-returns Inv-loop μ-loop
 unfolding rowFields
-returns c = 
+returns c =
     let l = c .before .loop in
     row-ended (l .t) _ _ _ (l .i) _ (c .loop-test .left) (l .inv) ∙ rw (← c .before .before .number .ensures)
 
