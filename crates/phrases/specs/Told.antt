@@ -80,7 +80,6 @@ pub record Fields : Type 0 where
   pub fullMixed : SaysFull (Write 0x190 0x24600009) "write TI1R 0x24600009 STID 0x123 TXRQ"
   pub modes : Says (Write 0x204 0x00002003) "write FM1R FBM0 FBM1 FBM13"
   pub pastBanks : Says (Write 0x204 0x00006003) "write FM1R 0x00006003"
-  pub active : Says (Write 0x21C 0x00000400) "write FA1R FACT10"
   pub alone : fieldsText 0x180 0x24600001 ≡ tables.bytes " STID 0x123 TXRQ"
 
 pub record Frames : Type 0 where
