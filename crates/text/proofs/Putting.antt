@@ -1,7 +1,7 @@
 -- Bytes put on a line one by one, and numbers as their digits.
-use mathlib.Core.Bool.{Bool, true, false, cond}
+use mathlib.Core.Bool.{Bool, true, false}
 use mathlib.Core.Path.{_≡_, refl, sym, ap, subst, _∙_}
-use mathlib.Core.List.{List, [], _∷_, _++_}
+use mathlib.Core.List.{List, [], _∷_}
 use Prim.Native.Nat.{ℕ, zero, suc, _+_, _-_, _*_, _/_, _%_, _^_, _≤_, _<_}
 use native.Mathlib.Nat.{pow-suc, one-le-pow, mod-eq-of-lt, div-eq-of-lt, lt-of-lt-of-le}
 use native.Mathlib.Numerals.{add-one}
@@ -10,11 +10,10 @@ use lib.Dec.{ltb}
 use lib.ListN.{length, getD, drop, drop-of-length-le}
 use lib.Pow.{pow-mono}
 use lib.Seq.{drop-cons, take-set-le}
-use borrow.Author.Tests.{lt-ltb, le-ltb, ltb-true, ltb-false}
+use borrow.Author.Tests.{lt-ltb, le-ltb}
 use Rattle.io.specs.Digits as io
-use Rattle.model.specs.Base.{pick}
 use Rattle.text.specs.Lines.{Extends, extends-refl, extends-trans, added, putAll}
-use Rattle.text.specs.Numbers.{digit, digitAt, digits, decimalOn}
+use Rattle.text.specs.Numbers.{digitAt, digits, decimalOn}
 use Rattle.text.specs.declared.Line.{Line}
 
 pub added-extends : (l : Line) (b : ℕ) → Extends l (added l b)

@@ -1,6 +1,5 @@
-use mathlib.Core.Path.{_≡_, _∙_, ap, refl}
-use Prim.Native.Nat.{ℕ, _-_}
-use native.Mathlib.Omega.{arith}
+use mathlib.Core.Path.{_≡_, _∙_}
+use Prim.Native.Nat.{_-_}
 use Rattle.phrases.specs.Names.{rowOn, rowFields, withFields}
 use Rattle.phrases.proofs.Putting.{row-begin, row-on, row-ended}
 use borrow.Author.Needs.{needs}
