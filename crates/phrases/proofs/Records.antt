@@ -1,6 +1,6 @@
 -- The record of a frame, in a space of its length.
-use mathlib.Core.Path.{_≡_, refl}
-use Prim.Native.Nat.{ℕ, _<_, _^_}
+use mathlib.Core.Path.{_≡_}
+use Prim.Native.Nat.{_<_, _^_}
 use lib.ListN.{replicate}
 use borrow.Author.Tests.{lt-ltb}
 use Rattle.model.specs.Script.{overwritten}

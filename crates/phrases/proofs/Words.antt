@@ -1,9 +1,9 @@
 -- Fields in words of 32 bits.
-use mathlib.Core.Path.{_≡_, refl, sym, ap, _∙_}
-use Prim.Native.Nat.{ℕ, zero, suc, _+_, _*_, _/_, _%_, _^_, _<_, _≤_}
+use mathlib.Core.Path.{_≡_, sym, ap, _∙_}
+use Prim.Native.Nat.{ℕ, _*_, _/_, _%_, _^_, _<_, _≤_}
 use native.Mathlib.Nat.{one-mul, zero-mul, zero-mod, div-eq-of-lt, mod-eq-of-lt, mod-le, lt-of-lt-of-le, lt-of-le-of-lt, le-trans, mul-le-mul-right}
 use native.Mathlib.Omega.{arith}
-use lib.Pow.{pow-mono, pow-lt, pow-pos, shr-le, split}
+use lib.Pow.{pow-mono, pow-lt, shr-le, split}
 use Rattle.model.specs.Base.{bits}
 
 pub no-field : (i n w : ℕ) → 32 ≤ i → w < 2 ^ 32 → bits i n w ≡ 0

@@ -58,7 +58,7 @@ dataText x = pairsText false (take (dataBytes x) (dataOf x))
 unfoldable pub payloadText : Frame → List ℕ
 payloadText x = pick (bit 1 (x .identifier)) (remoteText (x .length)) (dataText x)
 
--- a length code above 8 stands behind a line
+-- a length code above 8 stands behind an underscore
 unfoldable pub codeText : ℕ → List ℕ
 codeText n = pick (leb n 8) [] (95 ∷ digits n 1)
 

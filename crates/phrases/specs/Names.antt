@@ -1,5 +1,5 @@
 -- Registers and the fields of a word as text, by the table of names.
-use mathlib.Core.Bool.{Bool, true, false, not, _&&_, _||_}
+use mathlib.Core.Bool.{Bool, true, not, _||_}
 use mathlib.Core.List.{List, [], _∷_, _++_}
 use Prim.Native.Nat.{ℕ, zero, suc, _+_, _-_, _*_, _^_}
 use lib.Dec.{eqb}
@@ -32,7 +32,7 @@ nameText row i = nameOn row i 0 8
 abbrev pub leading : ℕ → List ℕ
 leading row = nameText row 0 ++ (32 ∷ [])
 
--- an offset where no register is, as a number of four hex digits
+-- where no register is, the offset; it has 16 bits
 abbrev pub registerOf : Found → ℕ → List ℕ
 registerOf f o = pick (eqb (f .row) none) (hex o 4) (nameText (f .row) (f .index))
 

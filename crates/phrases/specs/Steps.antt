@@ -1,6 +1,6 @@
 -- A step as a line of lesson text: docs/LESSONS.md, "Steps" and "From bytes to text".
-use mathlib.Core.Bool.{Bool, true, false, not, _&&_}
-use mathlib.Core.List.{List, [], _∷_, _++_}
+use mathlib.Core.Bool.{Bool, not, _&&_}
+use mathlib.Core.List.{List, _∷_, _++_}
 use Prim.Native.Nat.{ℕ, _+_}
 use lib.Dec.{eqb, ltb}
 use Rattle.model.specs.Base.{pick}

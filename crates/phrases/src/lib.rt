@@ -174,10 +174,7 @@ fn with_own(s: Said, register: usize, row: usize, w: u32) -> Said
 fn all_fields(l: Line, register: usize, w: u32) -> Said
     ensures { λ r. ⌜ r ≡ naming.saidOf l (naming.fieldsOf register) w ⌝ }
 {
-    let mut t = Said {
-        line: l,
-        rest: w,
-    };
+    let mut t = Said { line: l, rest: w };
     let mut row: usize = 23;
     while row < 134 {
         t = with_own(t, register, row, w);

@@ -1,7 +1,7 @@
 -- Bytes put on a line one by one, and numbers as their digits.
-use mathlib.Core.Bool.{Bool, true, false, cond}
+use mathlib.Core.Bool.{Bool, true, false}
 use mathlib.Core.Path.{_≡_, refl, sym, ap, subst, _∙_}
-use mathlib.Core.List.{List, [], _∷_, _++_}
+use mathlib.Core.List.{List, [], _∷_}
 use Prim.Native.Nat.{ℕ, zero, suc, _+_, _-_, _*_, _/_, _%_, _^_, _≤_, _<_}
 use native.Mathlib.Nat.{pow-suc, one-le-pow, mod-eq-of-lt, div-eq-of-lt, lt-of-lt-of-le}
 use native.Mathlib.Numerals.{add-one}
@@ -10,11 +10,10 @@ use lib.Dec.{ltb}
 use lib.ListN.{length, getD, drop, drop-of-length-le}
 use lib.Pow.{pow-mono}
 use lib.Seq.{drop-cons, take-set-le}
-use borrow.Author.Tests.{lt-ltb, le-ltb, ltb-true, ltb-false}
+use borrow.Author.Tests.{lt-ltb, le-ltb}
 use Rattle.io.specs.Digits as io
-use Rattle.model.specs.Base.{pick}
 use Rattle.text.specs.Lines.{Extends, extends-refl, extends-trans, added, putAll}
-use Rattle.text.specs.Numbers.{digit, digitAt, digits, decimalOn}
+use Rattle.text.specs.Numbers.{digitAt, digits, decimalOn}
 use Rattle.text.specs.declared.Line.{Line}
 
 pub added-extends : (l : Line) (b : ℕ) → Extends l (added l b)
@@ -66,6 +65,7 @@ module _ (m z : Line) (w k : ℕ) where
     where
       next : k - (i + 1) ≡ k - 1 - i
       next = omega arith
+
       left : k - i ≡ suc (k - 1 - i)
       left = omega arith
 
@@ -94,8 +94,11 @@ decimal-digits k n zero h f = absurd (omega (arith, f .0))
 decimal-digits k n (suc zero) h f = rw (lt-ltb n 10 (omega (arith, f .1)), glyph-is n, mod-eq-of-lt {n = n} {m = 10} (omega (arith, f .1)))
 decimal-digits zero n (suc (suc j)) h f = absurd (omega (arith, h, one-le-pow j 10 (omega arith), more j n f))
 decimal-digits (suc k) n (suc (suc j)) h f =
-    rw (le-ltb n 10 (omega (arith, one-le-pow j 10 (omega arith), more j n f)), glyph-is n,
-    decimal-digits k (n / 10) (suc j) (omega (arith, h, pow-suc 10 (suc k))) (omega arith, omega (arith, f .1, pow-suc 10 (suc j)), less))
+    rw (
+      le-ltb n 10 (omega (arith, one-le-pow j 10 (omega arith), more j n f)),
+      glyph-is n,
+      decimal-digits k (n / 10) (suc j) (omega (arith, h, pow-suc 10 (suc k))) (omega arith, omega (arith, f .1, pow-suc 10 (suc j)), less),
+    )
   where
     less : 1 < suc j → 10 ^ (suc j - 1) ≤ n / 10
     less _ = omega (arith, more j n f, ap (λ (x : ℕ). 10 ^ x) same)

@@ -1,6 +1,5 @@
 use mathlib.Core.Path.{_≡_, _∙_, ap, refl}
 use Prim.Native.Nat.{ℕ, _-_}
-use native.Mathlib.Omega.{arith}
 use Rattle.text.specs.Lines.{putAll}
 use Rattle.phrases.specs.Names.{letterText, nameOn, nameText}
 use Rattle.phrases.proofs.Putting.{name-on, name-ended}

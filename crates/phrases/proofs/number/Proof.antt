@@ -1,4 +1,3 @@
-use Rattle.text.specs.Numbers.{hex}
 use Rattle.phrases.proofs.Putting.{behind}
 use borrow.Author.Needs.{needs}
 use Rattle.phrases.proofs.number.Statement.{statement}

@@ -1,4 +1,3 @@
-use mathlib.Core.Path.{_≡_, _∙_, ap, sym}
 use Rattle.phrases.proofs.Words.{no-placed, field-placed}
 use borrow.Author.Needs.{needs}
 use Rattle.phrases.proofs.placed.Statement.{statement}

@@ -1,5 +1,5 @@
 use lib.Pow.{pow-pos}
-use mathlib.Core.Path.{_≡_, _∙_, ap, sym}
+use mathlib.Core.Path.{sym}
 use Rattle.phrases.proofs.Words.{no-field, wide-field, one-shifted}
 use borrow.Author.Needs.{needs}
 use Rattle.phrases.proofs.value.Statement.{statement}

@@ -1,5 +1,3 @@
-use mathlib.Core.Path.{_≡_, _∙_, ap, sym}
-use Rattle.phrases.specs.Names.{isHidden}
 use Rattle.phrases.proofs.Putting.{behind, hidden, shown}
 use borrow.Author.Needs.{needs}
 use Rattle.phrases.proofs.with_field.Statement.{statement}

@@ -1,6 +1,5 @@
-use mathlib.Core.Path.{_≡_, _∙_, ap, refl}
-use Prim.Native.Nat.{ℕ, _-_}
-use native.Mathlib.Omega.{arith}
+use mathlib.Core.Path.{_≡_, _∙_}
+use Prim.Native.Nat.{_-_}
 use Rattle.phrases.specs.Names.{rowOn, rowFields, withFields}
 use Rattle.phrases.proofs.Putting.{row-begin, row-on, row-ended}
 use borrow.Author.Needs.{needs}
@@ -29,13 +28,13 @@ loop-less : tie.Need-loop-less Inv-loop μ-loop
 loop-less c = search needs
 
 loop-again : tie.Need-loop-again Inv-loop μ-loop
-loop-again c = 
+loop-again c =
     let l = c .before .before .loop in
     row-on (l .t) _ _ _ (l .i) _ _ (c .before .loop-test .taken) (c .with-field .ensures) (l .inv)
 
 returns : tie.Need-returns Inv-loop μ-loop
 unfolding rowFields
-returns c = 
+returns c =
     let l = c .before .loop in
     row-ended (l .t) _ _ _ (l .i) _ (c .loop-test .left) (l .inv) ∙ rw (← c .before .before .number .ensures)
 

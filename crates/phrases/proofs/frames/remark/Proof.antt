@@ -1,4 +1,4 @@
-use mathlib.Core.Path.{_≡_, _∙_, ap, sym}
+use mathlib.Core.Path.{_∙_}
 use Rattle.model.specs.Records.{fieldBytes, bytesOf}
 use Rattle.names.specs.Table.{bytes}
 use Rattle.phrases.specs.Frames.{remarkText}

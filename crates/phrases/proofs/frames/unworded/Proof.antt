@@ -1,4 +1,3 @@
-use mathlib.Core.Path.{_≡_, _∙_, ap, sym}
 use Rattle.phrases.specs.Frames.{unwordedText}
 use Rattle.phrases.proofs.Putting.{behind}
 use borrow.Author.Needs.{needs}
