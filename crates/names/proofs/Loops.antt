@@ -1,8 +1,8 @@
 -- The definitions that count what is left, one place on and at their end: what a loop needs to carry them.
 use mathlib.Core.Bool.{Bool, true, false}
-use mathlib.Core.Path.{_≡_, refl, ap, _∙_}
+use mathlib.Core.Path.{_≡_, ap, _∙_}
 use mathlib.Core.List.{List}
-use Prim.Native.Nat.{ℕ, zero, suc, _+_, _-_, _<_, _≤_}
+use Prim.Native.Nat.{ℕ, suc, _+_, _-_, _<_, _≤_}
 use native.Mathlib.Omega.{arith}
 use borrow.Author.Tests.{eq-eqb, ne-eqb}
 use Rattle.model.specs.Base.{pick}
@@ -10,7 +10,6 @@ use Rattle.names.specs.Scan.{byteAt, isOf, runOn, withDigit, valueOn, le
 use Rattle.names.specs.Rows.{nowhere, isNamed, findOn, isAt, indexAt, registerOn}
 use Rattle.names.specs.declared.scan.Class.{Class}
 use Rattle.names.specs.declared.scan.Word.{Word}
-use Rattle.names.specs.declared.rows.Found.{Found}
 
 module _ (i j : ℕ) where
   left : i < j → j - i ≡ suc (j - (i + 1))

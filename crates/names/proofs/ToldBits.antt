@@ -1,16 +1,15 @@
 -- The fields of a register have exactly the bits that are not reserved: computed, with each register's row found first.
-use mathlib.Core.Bool.{Bool, true, false, not, _&&_}
-use mathlib.Core.Path.{_≡_, refl, sym, ap, _∙_}
-use mathlib.Core.List.{List, [], _∷_}
+use mathlib.Core.Bool.{Bool, not, _&&_}
+use mathlib.Core.Path.{_≡_, refl, ap, _∙_}
+use mathlib.Core.List.{List}
 use Prim.Native.Nat.{ℕ, zero, suc, _+_, _*_, _≤_}
-use Prim.Native.String.{String}
 use native.Mathlib.Omega.{arith}
 use lib.Dec.{eqb}
 use lib.ListN.{drop}
 use Rattle.model.specs.Base.{pick}
 use Rattle.names.specs.Rows.{nameAt}
 use Rattle.names.specs.Table.{bytes, table, groupAt, belongs, number}
-use Rattle.names.specs.Told.{allOf, Bits, manualBits, standardBits, rowOf, besides, bitsOn, fieldBits, FieldBits}
+use Rattle.names.specs.Told.{Bits, manualBits, standardBits, besides, bitsOn, fieldBits, FieldBits}
 use Rattle.names.specs.declared.rows.Column.the-variants.{Place, Size, Count, Shown}
 use Rattle.names.specs.declared.Group.the-variants.{Registers}
 use Rattle.names.proofs.Lookups.{belongsAlong, belongs-along, on, upAlong}

@@ -1,10 +1,10 @@
 -- What is promised of the fields and words holds: computed.
-use mathlib.Core.Bool.{Bool, true, false, not, _&&_}
-use mathlib.Core.Path.{_≡_, refl, sym, ap, _∙_}
+use mathlib.Core.Bool.{Bool, true, _&&_}
+use mathlib.Core.Path.{_≡_, refl, ap, _∙_}
 use mathlib.Core.List.{List, [], _∷_}
 use Prim.Native.Nat.{ℕ, _+_}
 use Prim.Native.String.{String}
-use lib.Dec.{eqb, ltb}
+use lib.Dec.{eqb}
 use Rattle.names.specs.Scan.{byteAt, digitOf, isOf, runOn, runEnd, wordAt, withDigit, valueOn, value, letterOf, letter, cellLetter, sameOn, same}
 use Rattle.names.specs.Rows as rows
 use Rattle.names.specs.Table.{bytes, spelled, table, groupAt, belongs, number, place}

@@ -1,13 +1,10 @@
 -- The digits of a number of 32 bits are read as the number.
-use mathlib.Core.Bool.{Bool, true, false, _||_}
-use mathlib.Core.Path.{_≡_, refl, sym, ap, _∙_}
-use mathlib.Core.List.{List, [], _∷_}
+use mathlib.Core.Bool.{Bool, true, false}
+use mathlib.Core.Path.{_≡_, refl}
 use Prim.Native.Nat.{ℕ, _+_, _-_, _*_, _/_, _%_, _^_, _<_}
 use native.Mathlib.Omega.{arith}
 use lib.Dec.{eqb}
 use borrow.Author.Tests.{eqb-true, lt-ltb, lt-leb}
-use Rattle.model.specs.Base.{pick}
-use Rattle.model.proofs.Choices.{Is}
 use Rattle.model.proofs.Bounded.{allBelow, each-below}
 use Rattle.names.specs.Scan.{byteAt, digitOf, baseOf, withDigit, valueOn, value}
 use Rattle.names.specs.Table.{bytes}

@@ -1,20 +1,19 @@
 -- The registers of the table are the model's. The numbers of the 23 rows are computed once; below 0x400 every offset is tried, and
 -- from there on no row and no register of the model reaches.
 use mathlib.Core.Bool.{Bool, true, false, not, _&&_, _||_, true≢false, false≢true}
-use mathlib.Core.Path.{_≡_, refl, sym, ap, subst, _∙_}
+use mathlib.Core.Path.{_≡_, refl}
 use mathlib.Core.List.{List, [], _∷_}
 use Prim.Native.Nat.{ℕ, zero, suc, _+_, _-_, _*_, _/_, _%_, _<_, _≤_}
 use native.Mathlib.Nat.{le-div-iff-mul-le}
 use native.Mathlib.Omega.{arith}
 use lib.Dec.{eqb, ltb, leb}
 use lib.ListN.{getD}
-use borrow.Author.Tests.{eqb-true, ltb-true, ltb-false, leb-true, lt-ltb, le-ltb, le-leb, ne-eqb}
+use borrow.Author.Tests.{eqb-true, ltb-true, ltb-false, leb-true, le-ltb, le-leb, ne-eqb}
 use Rattle.model.specs.Base.{pick}
 use Rattle.model.specs.Registers as model
 use Rattle.model.specs.Registers.{isAbsent, controlRegister, mailboxRegister, outputRegister, blockRegister, bankRegister, filterRegister}
-use Rattle.model.specs.declared.Register.{Register}
 use Rattle.model.specs.declared.Register.the-variants.{Absent}
-use Rattle.model.proofs.Choices.{Is, and-l, and-r, pick-cases, opposed}
+use Rattle.model.proofs.Choices.{Is, and-l, and-r, pick-cases}
 use Rattle.model.proofs.Bounded.{allBelow, each-below}
 use Rattle.names.specs.Rows as rows
 use Rattle.names.specs.Rows.{nowhere, indexAt, isAt, registerOn}

@@ -7,7 +7,7 @@
 --     bytes 23, 24     the count: how many there are, one behind the other
 --     byte 26          how many hex digits a field's number has in print; 0 for a decimal number
 --     byte 28          when a field is shown: 0 always, 1 while IDE is 0, 2 while it is 1
-use mathlib.Core.Bool.{Bool, true, false, _&&_, _||_, not}
+use mathlib.Core.Bool.{Bool, false, _&&_, _||_, not}
 use mathlib.Core.List.{List}
 use Prim.Native.Nat.{ℕ, zero, suc, _+_, _-_, _*_, _/_, _%_, _^_, min}
 use lib.Dec.{eqb, ltb, leb}

@@ -205,8 +205,13 @@ unfoldable pub counted : Group → ℕ → List String → Bool
 counted g n [] = true
 counted g n (x ∷ l) = isPlaced (lookedUp (bytes x) g) n 1 && counted g (n + 1) l
 
+abbrev pub stepWords : List String
+stepWords =
+    "reset" ∷ "read" ∷ "write" ∷ "idle" ∷ "bits" ∷ "activity" ∷ "start" ∷ "end" ∷ "frame" ∷ "error" ∷
+    "expect" ∷ "repeat" ∷ "done" ∷ "bytes" ∷ []
+
 pub record Words : Type 0 where
-  pub steps : counted Steps 1 ("reset" ∷ "read" ∷ "write" ∷ "idle" ∷ "bits" ∷ "activity" ∷ "start" ∷ "end" ∷ "frame" ∷ "error" ∷ "expect" ∷ "repeat" ∷ "done" ∷ "bytes" ∷ []) ≡ true
+  pub steps : counted Steps 1 stepWords ≡ true
   pub results : counted Results 0 ("good" ∷ "stuff" ∷ "form" ∷ "ack" ∷ "bit1" ∷ "bit0" ∷ "crc" ∷ "lost" ∷ []) ≡ true
   pub lines : counted Lines 0 ("TX" ∷ "FIFO0" ∷ "FIFO1" ∷ "SCE" ∷ "none" ∷ []) ≡ true
   pub expectations : counted Expectations 1 ("refused" ∷ "lines" ∷ []) ≡ true
@@ -240,10 +245,14 @@ abbrev pub digit : ℕ → ℕ
 digit v = pick (ltb v 10) (48 + v) (55 + v)
 
 abbrev pub hexDigits : ℕ → List ℕ
-hexDigits n = digit (n / 16 ^ 7 % 16) ∷ digit (n / 16 ^ 6 % 16) ∷ digit (n / 16 ^ 5 % 16) ∷ digit (n / 16 ^ 4 % 16) ∷ digit (n / 16 ^ 3 % 16) ∷ digit (n / 16 ^ 2 % 16) ∷ digit (n / 16 % 16) ∷ digit (n % 16) ∷ []
+hexDigits n =
+    digit (n / 16 ^ 7 % 16) ∷ digit (n / 16 ^ 6 % 16) ∷ digit (n / 16 ^ 5 % 16) ∷ digit (n / 16 ^ 4 % 16) ∷
+    digit (n / 16 ^ 3 % 16) ∷ digit (n / 16 ^ 2 % 16) ∷ digit (n / 16 % 16) ∷ digit (n % 16) ∷ []
 
 abbrev pub decimalDigits : ℕ → List ℕ
-decimalDigits n = digit (n / 10 ^ 9 % 10) ∷ digit (n / 10 ^ 8 % 10) ∷ digit (n / 10 ^ 7 % 10) ∷ digit (n / 10 ^ 6 % 10) ∷ digit (n / 10 ^ 5 % 10) ∷ digit (n / 10 ^ 4 % 10) ∷ digit (n / 10 ^ 3 % 10) ∷ digit (n / 10 ^ 2 % 10) ∷ digit (n / 10 % 10) ∷ digit (n % 10) ∷ []
+decimalDigits n =
+    digit (n / 10 ^ 9 % 10) ∷ digit (n / 10 ^ 8 % 10) ∷ digit (n / 10 ^ 7 % 10) ∷ digit (n / 10 ^ 6 % 10) ∷ digit (n / 10 ^ 5 % 10) ∷
+    digit (n / 10 ^ 4 % 10) ∷ digit (n / 10 ^ 3 % 10) ∷ digit (n / 10 ^ 2 % 10) ∷ digit (n / 10 % 10) ∷ digit (n % 10) ∷ []
 
 abbrev pub valueOf : String → Bool → ℕ
 valueOf x hex = value (bytes x) 0 (length (bytes x)) hex
