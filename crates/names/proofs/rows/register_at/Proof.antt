@@ -7,10 +7,10 @@ use Rattle.names.proofs.rows.register_at.Statement.{statement}
 use Rattle.names.proofs.rows.register_at.Tie as tie
 
 abbrev Inv-loop : tie.InvT-loop
-Inv-loop t offset row₀ row = rows.registerOn t offset row (23 - row) ≡ rows.registerAt t offset
+Inv-loop offset row₀ row = rows.registerOn offset row (52 - row) ≡ rows.registerAt offset
 
 abbrev μ-loop : tie.MeasureT-loop
-μ-loop t offset row₀ row = 23 - row
+μ-loop offset row₀ row = 52 - row
 
 loop-holds : tie.Need-loop-holds Inv-loop μ-loop
 unfolding rows.registerAt
@@ -24,9 +24,9 @@ index-at-requires c κs = search needs
 
 returns : tie.Need-returns Inv-loop μ-loop
 returns c =
-    let a = c .before .before .before .before .before .before .args in
+    let a = c .before .before .before .before .before .args in
     let l = c .before .before .before .before .loop in
-    rw (c .index-at .ensures) (sym (register-stops (a .t .now) (a .offset) (l .row) 23 (c .before .before .before .loop-test .taken) (cc)) ∙ l .inv)
+    rw (c .index-at .ensures) (sym (register-stops (a .offset) (l .row) 52 (c .before .before .before .loop-test .taken) (cc)) ∙ l .inv)
 
 add-row : tie.Need-add-row Inv-loop μ-loop
 add-row c = search needs
@@ -36,15 +36,15 @@ loop-less c = search needs
 
 loop-again : tie.Need-loop-again Inv-loop μ-loop
 loop-again c =
-    let a = c .before .before .before .before .before .args in
+    let a = c .before .before .before .before .args in
     let l = c .before .before .before .loop in
-    sym (register-on (a .t .now) (a .offset) (l .row) 23 (c .before .before .loop-test .taken) (cc)) ∙ l .inv
+    sym (register-on (a .offset) (l .row) 52 (c .before .before .loop-test .taken) (cc)) ∙ l .inv
 
 returns-2 : tie.Need-returns-2 Inv-loop μ-loop
 returns-2 c =
-    let a = c .before .before .before .args in
+    let a = c .before .before .args in
     let l = c .before .loop in
-    sym (register-ended (a .t .now) (a .offset) (l .row) 23 (c .loop-test .left)) ∙ l .inv
+    sym (register-ended (a .offset) (l .row) 52 (c .loop-test .left)) ∙ l .inv
 
 pub register-at-spec : {M : Type 1} → statement M
 register-at-spec =
