@@ -30,7 +30,7 @@ returns c =
     let a = c .before .before .before .before .before .before .args in
     let l = c .before .before .before .before .loop in
     let s = c .before .before .before .before .before .start .result in
-    sym (alike-stops (a .group) s (l .k) 8 (c .before .before .before .loop-test .taken) (λ e. c .if1 .taken (cc))) ∙ l .inv
+    sym (alike-stops (a .group) s (l .k) 8 (c .before .before .before .loop-test .taken) (λ e. c .if1 .taken (c .before .before .cell-letter .ensures ∙ e ∙ sym (c .before .cell-letter2 .ensures)))) ∙ l .inv
 
 add-k : tie.Need-add-k Inv-loop μ-loop
 add-k c = search needs
@@ -43,7 +43,7 @@ loop-again c =
     let a = c .before .before .before .before .before .before .args in
     let l = c .before .before .before .before .loop in
     let s = c .before .before .before .before .before .start .result in
-    sym (alike-on (a .group) s (l .k) 8 (c .before .before .before .loop-test .taken) (cc)) ∙ l .inv
+    sym (alike-on (a .group) s (l .k) 8 (c .before .before .before .loop-test .taken) (sym (c .before .before .cell-letter .ensures) ∙ c .if1 .left ∙ c .before .cell-letter2 .ensures)) ∙ l .inv
 
 returns-2 : tie.Need-returns-2 Inv-loop μ-loop
 returns-2 c =

@@ -23,7 +23,7 @@ returns : tie.Need-returns Inv-loop μ-loop
 returns c =
     let a = c .before .before .before .before .before .args in
     let l = c .before .before .before .loop in
-    sym (find-stops (a .s .now) (a .w) (a .group) (l .row) 163 (c .before .before .loop-test .taken) (cc)) ∙ l .inv
+    sym (find-stops (a .s .now) (a .w) (a .group) (l .row) 163 (c .before .before .loop-test .taken) (sym (c .before .is-named .ensures) ∙ c .if1 .taken)) ∙ l .inv
 
 add-row : tie.Need-add-row Inv-loop μ-loop
 add-row c = search needs
@@ -35,7 +35,7 @@ loop-again : tie.Need-loop-again Inv-loop μ-loop
 loop-again c =
     let a = c .before .before .before .before .before .args in
     let l = c .before .before .before .loop in
-    sym (find-on (a .s .now) (a .w) (a .group) (l .row) 163 (c .before .before .loop-test .taken) (cc)) ∙ l .inv
+    sym (find-on (a .s .now) (a .w) (a .group) (l .row) 163 (c .before .before .loop-test .taken) (sym (c .before .is-named .ensures) ∙ c .if1 .left)) ∙ l .inv
 
 returns-2 : tie.Need-returns-2 Inv-loop μ-loop
 returns-2 c =

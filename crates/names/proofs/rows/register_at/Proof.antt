@@ -26,7 +26,7 @@ returns : tie.Need-returns Inv-loop μ-loop
 returns c =
     let a = c .before .before .before .before .before .args in
     let l = c .before .before .before .before .loop in
-    rw (c .index-at .ensures) (sym (register-stops (a .offset) (l .row) 52 (c .before .before .before .loop-test .taken) (cc)) ∙ l .inv)
+    rw (c .index-at .ensures) (sym (register-stops (a .offset) (l .row) 52 (c .before .before .before .loop-test .taken) (sym (c .before .before .is-at .ensures) ∙ c .before .if1 .taken)) ∙ l .inv)
 
 add-row : tie.Need-add-row Inv-loop μ-loop
 add-row c = search needs
@@ -38,7 +38,7 @@ loop-again : tie.Need-loop-again Inv-loop μ-loop
 loop-again c =
     let a = c .before .before .before .before .args in
     let l = c .before .before .before .loop in
-    sym (register-on (a .offset) (l .row) 52 (c .before .before .loop-test .taken) (cc)) ∙ l .inv
+    sym (register-on (a .offset) (l .row) 52 (c .before .before .loop-test .taken) (sym (c .before .is-at .ensures) ∙ c .if1 .left)) ∙ l .inv
 
 returns-2 : tie.Need-returns-2 Inv-loop μ-loop
 returns-2 c =

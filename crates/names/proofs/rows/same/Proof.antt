@@ -26,7 +26,7 @@ returns : tie.Need-returns Inv-loop μ-loop
 returns c =
     let a = c .before .before .before .before .before .before .args in
     let l = c .before .before .before .before .loop in
-    sym (same-stops (a .s .now) (a .w) (a .place) (l .k) 9 (c .before .before .before .loop-test .taken) (λ e. c .if1 .taken (cc))) ∙ l .inv
+    sym (same-stops (a .s .now) (a .w) (a .place) (l .k) 9 (c .before .before .before .loop-test .taken) (λ e. c .if1 .taken (c .before .before .letter .ensures ∙ e ∙ sym (c .before .cell-letter .ensures)))) ∙ l .inv
 
 add-k : tie.Need-add-k Inv-loop μ-loop
 add-k c = search needs
@@ -38,7 +38,7 @@ loop-again : tie.Need-loop-again Inv-loop μ-loop
 loop-again c =
     let a = c .before .before .before .before .before .before .args in
     let l = c .before .before .before .before .loop in
-    sym (same-on (a .s .now) (a .w) (a .place) (l .k) 9 (c .before .before .before .loop-test .taken) (cc)) ∙ l .inv
+    sym (same-on (a .s .now) (a .w) (a .place) (l .k) 9 (c .before .before .before .loop-test .taken) (sym (c .before .before .letter .ensures) ∙ c .if1 .left ∙ c .before .cell-letter .ensures)) ∙ l .inv
 
 returns-2 : tie.Need-returns-2 Inv-loop μ-loop
 returns-2 c =
