@@ -1,1 +1,4 @@
-pub mod Read
+pub mod ToldNames
+pub mod ToldNumbers
+pub mod ToldBits
+pub mod ToldRegisters
