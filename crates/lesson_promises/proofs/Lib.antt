@@ -2,3 +2,4 @@ pub mod ToldNames
 pub mod ToldNumbers
 pub mod ToldBits
 pub mod ToldRegisters
+pub mod Read

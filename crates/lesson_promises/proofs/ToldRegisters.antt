@@ -37,13 +37,13 @@ abbrev counts : List ℕ
 counts = 1 ∷ 1 ∷ 1 ∷ 1 ∷ 1 ∷ 1 ∷ 1 ∷ 1 ∷ 3 ∷ 3 ∷ 3 ∷ 3 ∷ 2 ∷ 2 ∷ 2 ∷ 2 ∷ 1 ∷ 1 ∷ 1 ∷ 1 ∷ 1 ∷ 14 ∷ 14 ∷ []
 
 abbrev place′ : ℕ → ℕ
-place′ k = getD places row 0
+place′ k = getD places k 0
 
 abbrev size′ : ℕ → ℕ
-size′ k = getD sizes row 0
+size′ k = getD sizes k 0
 
 abbrev count′ : ℕ → ℕ
-count′ k = getD counts row 0
+count′ k = getD counts k 0
 
 all-known : (c : Column) (l : List ℕ) → Is (allBelow (λ (k : ℕ). eqb (rows.number (k + 29) c) (getD l k 0)) 23)
     → (k : ℕ) → k < 23 → rows.number (k + 29) c ≡ getD l k 0
@@ -82,7 +82,8 @@ walked : (o k n : ℕ) → k + n ≤ 23 → registerOn o (k + 29) n ≡ along o 
 unfolding registerOn isAt indexAt along
 walked o k zero h = refl
 walked o k (suc n) h =
-    rw (known-place k (omega arith), known-size k (omega arith), known-count k (omega arith), walked o (k + 1) n (omega arith))
+    let e : k + 29 + 1 ≡ k + 1 + 29 = omega arith in
+    rw (known-place k (omega arith), known-size k (omega arith), known-count k (omega arith), e, walked o (k + 1) n (omega arith))
 
 register-along : (o : ℕ) → registerAt o ≡ along o 0 23
 unfolding registerAt rows.registerAt
