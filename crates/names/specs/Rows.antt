@@ -118,7 +118,7 @@ indexIn p s c o = pick (ltb o p || eqb s 0) c (pick (not (eqb ((o - p) % s) 0)) 
 unfoldable pub indexAt : ℕ → ℕ → ℕ
 indexAt row o = indexIn (number row Place) (number row Size) (number row Count) o
 
-unfoldable pub isAt : ℕ → ℕ → Bool
+abbrev pub isAt : ℕ → ℕ → Bool
 isAt row o = ltb (indexAt row o) (number row Count)
 
 -- the first of n rows from this one on that is at the offset

@@ -3,6 +3,7 @@ ghost use mathlib.Core.Path.{_≡_};
 ghost use Rattle.names.specs.Table as tables;
 use rows::Column;
 use rows::Found;
+use rows::ROW;
 use scan::Word;
 
 pub mod rows; // the rows of the table
@@ -20,17 +21,24 @@ pub enum Group {
     Expectations,
 }
 
+// Where the first row of a group begins, with the group's name.
+const STEPS: usize = 0;
+const RESULTS: usize = 14 * ROW;
+const LINES: usize = 22 * ROW;
+const EXPECTATIONS: usize = 27 * ROW;
+const REGISTERS: usize = 29 * ROW;
+
 // The place of the cell that has the name of a group.
 fn group_at(g: Group) -> usize
     ensures { λ r. ⌜ r ≡ tables.groupAt g ⌝ }
 {
     match g {
-        Group::Registers => rows::start(29),
+        Group::Registers => REGISTERS,
         Group::Fields(row) => rows::name_at(row),
-        Group::Steps => rows::start(0),
-        Group::Results => rows::start(14),
-        Group::Lines => rows::start(22),
-        Group::Expectations => rows::start(27),
+        Group::Steps => STEPS,
+        Group::Results => RESULTS,
+        Group::Lines => LINES,
+        Group::Expectations => EXPECTATIONS,
     }
 }
 

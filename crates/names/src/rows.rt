@@ -13,7 +13,7 @@ use super::table::at;
 // No row.
 pub const NONE: usize = 163;
 
-const ROW: usize = 29;
+pub(crate) const ROW: usize = 29;
 
 // The registers are the rows from one up to another; their place is a hex number.
 const REGISTERS: usize = 29;
@@ -194,22 +194,17 @@ fn index_at(row: usize, offset: u32) -> u32
     d / size
 }
 
-fn is_at(row: usize, offset: u32) -> bool
-    ensures { λ r. ⌜ r ≡ rows.isAt row offset ⌝ }
-{
-    index_at(row, offset) < number(row, Column::Count)
-}
-
 // The register at an offset.
 pub(crate) fn register_at(offset: u32) -> Found
     ensures { λ r. ⌜ r ≡ rows.registerAt offset ⌝ }
 {
     let mut row: usize = REGISTERS;
     while row < FIELDS {
-        if is_at(row, offset) {
+        let index = index_at(row, offset);
+        if index < number(row, Column::Count) {
             return Found {
                 row: row,
-                index: index_at(row, offset),
+                index: index,
             };
         }
         row += 1;
