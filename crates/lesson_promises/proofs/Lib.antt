@@ -1,1 +1,5 @@
+pub mod ToldNames
+pub mod ToldNumbers
+pub mod ToldBits
+pub mod ToldRegisters
 pub mod Read

@@ -1,9 +1,5 @@
 -- Each line is computed.
 use mathlib.Core.Path.{refl}
-use Rattle.names.specs.Scan.{byteAt, digitOf, isOf, runOn, runEnd, withDigit, valueOn, value, wordAt, letterOf, letter, cellLetter, sameOn, same}
-use Rattle.names.specs.Rows as rows
-use Rattle.names.specs.Table as tables
-use Rattle.names.specs.Table.{bytes, spelled, table, groupAt, named, place, registerAt}
 use Rattle.lines.specs.Numbers as numbers
 use Rattle.lines.specs.Frames as frames
 use Rattle.lines.specs.Parts as parts
@@ -11,9 +7,10 @@ use Rattle.lines.specs.Meanings as meanings
 use Rattle.lines.specs.Expectations as expectations
 use Rattle.lines.specs.Lines as lines
 use Rattle.lesson_promises.specs.Reading.{Lines}
+use Rattle.lesson_promises.proofs.ToldNames.{lookups}
 
 pub lines-read : Lines
-unfolding byteAt digitOf isOf runOn runEnd withDigit valueOn value wordAt letterOf letter cellLetter sameOn same rows.number rows.belongs rows.isNamed rows.findOn rows.find rows.hasIndex rows.indexed rows.named rows.indexAt rows.isAt rows.registerOn rows.registerAt tables.number bytes spelled table groupAt named place registerAt numbers.isNumber numbers.digitsOf numbers.number numbers.name numbers.byName frames.pair frames.word frames.coded frames.finished frames.withData frames.remote frames.behindHash frames.identifier frames.frameOf frames.frame parts.isGiven parts.wordWith parts.withBits parts.numberBehind parts.withField parts.field parts.line parts.pairs parts.wordOf parts.oneMore parts.wordsOn parts.allWords parts.numberFirst parts.valueBegun parts.value meanings.alone expectations.linesNamed expectations.linesBehind expectations.refused expectations.wordExpected expectations.expectLine lines.readLine lines.written lines.writeLine lines.bitsLine lines.endLine lines.secondNumber lines.errorLine lines.frameLine lines.repeatLine lines.bytesLine lines.lineOf lines.meaningOf
+unfolding lookups numbers.isNumber numbers.digitsOf numbers.number numbers.name numbers.byName frames.pair frames.word frames.coded frames.finished frames.withData frames.remote frames.behindHash frames.identifier frames.frameOf frames.frame parts.isGiven parts.wordWith parts.withBits parts.numberBehind parts.withField parts.field parts.line parts.pairs parts.wordOf parts.oneMore parts.wordsOn parts.allWords parts.numberFirst parts.valueBegun parts.value meanings.alone expectations.linesNamed expectations.linesBehind expectations.refused expectations.wordExpected expectations.expectLine lines.readLine lines.written lines.writeLine lines.bitsLine lines.endLine lines.secondNumber lines.errorLine lines.frameLine lines.repeatLine lines.bytesLine lines.lineOf lines.meaningOf
 lines-read = record {
   empty = refl;
   comment = refl;

@@ -6,8 +6,9 @@ use Prim.Native.Nat.{ℕ, suc, _+_, _-_, _<_, _≤_}
 use native.Mathlib.Omega.{arith}
 use borrow.Author.Tests.{eq-eqb, ne-eqb}
 use Rattle.model.specs.Base.{pick}
-use Rattle.names.specs.Scan.{byteAt, isOf, runOn, withDigit, valueOn, letter, cellLetter, sameOn}
-use Rattle.names.specs.Rows.{nowhere, isNamed, findOn, isAt, indexAt, registerOn}
+use Rattle.names.specs.Scan.{byteAt, behind, isOf, runOn, withDigit, valueOn, letter}
+use Rattle.names.specs.Listing.{tableByte}
+use Rattle.names.specs.Rows.{nowhere, start, cellLetter, sameOn, alikeOn, digitsOn, isNamed, findOn, isAt, indexAt, registerOn}
 use Rattle.names.specs.declared.scan.Class.{Class}
 use Rattle.names.specs.declared.scan.Word.{Word}
 
@@ -40,45 +41,67 @@ module _ (s : List ℕ) (i j a : ℕ) (hex : Bool) where
   unfolding valueOn
   value-ended h = ap (λ (n : ℕ). valueOn s i hex n a) (none-left i j h)
 
-module _ (s : List ℕ) (w : Word) (t : List ℕ) (p k j : ℕ) where
-  pub same-on : k < j → letter s w k ≡ cellLetter t p k → sameOn s w t p k (j - k) ≡ sameOn s w t p (k + 1) (j - (k + 1))
+module _ (row i j a : ℕ) (hex : Bool) where
+  pub digits-on : i < j → digitsOn row i hex (j - i) a ≡ digitsOn row (i + 1) hex (j - (i + 1)) (withDigit a (tableByte (behind (start row) i)) hex)
+  unfolding digitsOn
+  digits-on h = ap (λ (n : ℕ). digitsOn row i hex n a) (left i j h)
+
+  pub digits-ended : j ≤ i → digitsOn row i hex (j - i) a ≡ a
+  unfolding digitsOn
+  digits-ended h = ap (λ (n : ℕ). digitsOn row i hex n a) (none-left i j h)
+
+module _ (s : List ℕ) (w : Word) (p k j : ℕ) where
+  pub same-on : k < j → letter s w k ≡ cellLetter p k → sameOn s w p k (j - k) ≡ sameOn s w p (k + 1) (j - (k + 1))
   unfolding sameOn
-  same-on h e = ap (sameOn s w t p k) (left k j h) ∙ ap (λ (b : Bool). pick b (sameOn s w t p (k + 1) (j - (k + 1))) false) (eq-eqb _ _ e)
+  same-on h e = ap (sameOn s w p k) (left k j h) ∙ ap (λ (b : Bool). pick b (sameOn s w p (k + 1) (j - (k + 1))) false) (eq-eqb _ _ e)
 
-  pub same-stops : k < j → (letter s w k ≡ cellLetter t p k → ⊥) → sameOn s w t p k (j - k) ≡ false
+  pub same-stops : k < j → (letter s w k ≡ cellLetter p k → ⊥) → sameOn s w p k (j - k) ≡ false
   unfolding sameOn
-  same-stops h e = ap (sameOn s w t p k) (left k j h) ∙ ap (λ (b : Bool). pick b (sameOn s w t p (k + 1) (j - (k + 1))) false) (ne-eqb _ _ e)
+  same-stops h e = ap (sameOn s w p k) (left k j h) ∙ ap (λ (b : Bool). pick b (sameOn s w p (k + 1) (j - (k + 1))) false) (ne-eqb _ _ e)
 
-  pub same-ended : j ≤ k → sameOn s w t p k (j - k) ≡ true
+  pub same-ended : j ≤ k → sameOn s w p k (j - k) ≡ true
   unfolding sameOn
-  same-ended h = ap (sameOn s w t p k) (none-left k j h)
+  same-ended h = ap (sameOn s w p k) (none-left k j h)
 
-module _ (t s : List ℕ) (w : Word) (g row j : ℕ) where
-  pub find-on : row < j → isNamed t s w g row ≡ false → findOn t s w g row (j - row) ≡ findOn t s w g (row + 1) (j - (row + 1))
+module _ (p q k j : ℕ) where
+  pub alike-on : k < j → cellLetter p k ≡ cellLetter q k → alikeOn p q k (j - k) ≡ alikeOn p q (k + 1) (j - (k + 1))
+  unfolding alikeOn
+  alike-on h e = ap (alikeOn p q k) (left k j h) ∙ ap (λ (b : Bool). pick b (alikeOn p q (k + 1) (j - (k + 1))) false) (eq-eqb _ _ e)
+
+  pub alike-stops : k < j → (cellLetter p k ≡ cellLetter q k → ⊥) → alikeOn p q k (j - k) ≡ false
+  unfolding alikeOn
+  alike-stops h e = ap (alikeOn p q k) (left k j h) ∙ ap (λ (b : Bool). pick b (alikeOn p q (k + 1) (j - (k + 1))) false) (ne-eqb _ _ e)
+
+  pub alike-ended : j ≤ k → alikeOn p q k (j - k) ≡ true
+  unfolding alikeOn
+  alike-ended h = ap (alikeOn p q k) (none-left k j h)
+
+module _ (s : List ℕ) (w : Word) (g row j : ℕ) where
+  pub find-on : row < j → isNamed s w g row ≡ false → findOn s w g row (j - row) ≡ findOn s w g (row + 1) (j - (row + 1))
   unfolding findOn
-  find-on h e = ap (findOn t s w g row) (left row j h) ∙ ap (λ (b : Bool). pick b row (findOn t s w g (row + 1) (j - (row + 1)))) e
+  find-on h e = ap (findOn s w g row) (left row j h) ∙ ap (λ (b : Bool). pick b row (findOn s w g (row + 1) (j - (row + 1)))) e
 
-  pub find-stops : row < j → isNamed t s w g row ≡ true → findOn t s w g row (j - row) ≡ row
+  pub find-stops : row < j → isNamed s w g row ≡ true → findOn s w g row (j - row) ≡ row
   unfolding findOn
-  find-stops h e = ap (findOn t s w g row) (left row j h) ∙ ap (λ (b : Bool). pick b row (findOn t s w g (row + 1) (j - (row + 1)))) e
+  find-stops h e = ap (findOn s w g row) (left row j h) ∙ ap (λ (b : Bool). pick b row (findOn s w g (row + 1) (j - (row + 1)))) e
 
-  pub find-ended : j ≤ row → findOn t s w g row (j - row) ≡ row
+  pub find-ended : j ≤ row → findOn s w g row (j - row) ≡ row
   unfolding findOn
-  find-ended h = ap (findOn t s w g row) (none-left row j h)
+  find-ended h = ap (findOn s w g row) (none-left row j h)
 
-module _ (t : List ℕ) (o row j : ℕ) where
-  pub register-on : row < j → isAt t row o ≡ false → registerOn t o row (j - row) ≡ registerOn t o (row + 1) (j - (row + 1))
+module _ (o row j : ℕ) where
+  pub register-on : row < j → isAt row o ≡ false → registerOn o row (j - row) ≡ registerOn o (row + 1) (j - (row + 1))
   unfolding registerOn
   register-on h e =
-      ap (registerOn t o row) (left row j h)
-      ∙ ap (λ (b : Bool). pick b (record { row = row; index = indexAt t row o }) (registerOn t o (row + 1) (j - (row + 1)))) e
+      ap (registerOn o row) (left row j h)
+      ∙ ap (λ (b : Bool). pick b (record { row = row; index = indexAt row o }) (registerOn o (row + 1) (j - (row + 1)))) e
 
-  pub register-stops : row < j → isAt t row o ≡ true → registerOn t o row (j - row) ≡ record { row = row; index = indexAt t row o }
+  pub register-stops : row < j → isAt row o ≡ true → registerOn o row (j - row) ≡ record { row = row; index = indexAt row o }
   unfolding registerOn
   register-stops h e =
-      ap (registerOn t o row) (left row j h)
-      ∙ ap (λ (b : Bool). pick b (record { row = row; index = indexAt t row o }) (registerOn t o (row + 1) (j - (row + 1)))) e
+      ap (registerOn o row) (left row j h)
+      ∙ ap (λ (b : Bool). pick b (record { row = row; index = indexAt row o }) (registerOn o (row + 1) (j - (row + 1)))) e
 
-  pub register-ended : j ≤ row → registerOn t o row (j - row) ≡ nowhere
+  pub register-ended : j ≤ row → registerOn o row (j - row) ≡ nowhere
   unfolding registerOn
-  register-ended h = ap (registerOn t o row) (none-left row j h)
+  register-ended h = ap (registerOn o row) (none-left row j h)

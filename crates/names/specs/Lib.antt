@@ -1,4 +1,4 @@
 pub mod Scan
+pub mod Listing
 pub mod Rows
 pub mod Table
-pub mod Told

@@ -94,16 +94,3 @@ letter s w k =
     pick (leb (w .rest) (w .digits)) (letterOf s (w .from) (w .to) k)
     (pick (ltb k (w .digits - w .from)) (letterOf s (w .from) (w .digits) k)
     (pick (eqb k (w .digits - w .from)) 37 (letterOf s (w .rest) (w .to) (k - (w .digits - w .from) - 1))))
-
--- byte k of the eight at a place; behind them a blank
-unfoldable pub cellLetter : List ℕ → ℕ → ℕ → ℕ
-cellLetter t p k = pick (leb 8 k) 32 (byteAt t (behind p k))
-
--- n letters of a word, from letter k on, are those of a cell
-unfoldable pub sameOn : List ℕ → Word → List ℕ → ℕ → ℕ → ℕ → Bool
-sameOn s w t p k zero = true
-sameOn s w t p k (suc n) = pick (eqb (letter s w k) (cellLetter t p k)) (sameOn s w t p (k + 1) n) false
-
--- a word is the name in a cell: eight letters or fewer, so that the ninth is a blank
-unfoldable pub same : List ℕ → Word → List ℕ → ℕ → Bool
-same s w t p = sameOn s w t p 0 9

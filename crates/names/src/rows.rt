@@ -1,20 +1,23 @@
-// A table of names: rows of 29 bytes, each with the name of its group, its own name and some numbers.
+// The table of names: rows of 29 bytes, each with the name of its group, its own name and some numbers.
 ghost use mathlib.Core.Path.{_≡_};
 ghost use Prim.Native.Nat.{_≤_};
 ghost use Rattle.names.specs.Rows as rows;
 use super::scan::Word;
 use super::scan::byte_at;
+use super::scan::letter;
 use super::scan::plain;
-use super::scan::same;
 use super::scan::value;
+use super::scan::with_digit;
+use super::table::at;
 
 // No row.
 pub const NONE: usize = 163;
 
-const ROW: usize = 29;
+pub(crate) const ROW: usize = 29;
 
-// So many rows at the front are registers; their place is a hex number.
-const REGISTERS: usize = 23;
+// The registers are the rows from one up to another; their place is a hex number.
+const REGISTERS: usize = 29;
+const FIELDS: usize = 52;
 
 // A row, with the number that stands in a name for the percent sign; row NONE where there is none.
 pub struct Found {
@@ -44,54 +47,89 @@ pub(crate) fn name_at(row: usize) -> usize
     start(row) + 8
 }
 
-// The number from one place of a row up to another.
-fn number_in(t: &[u8], row: usize, from: usize, to: usize, hex: bool) -> u32
-    ensures { λ r. ⌜ r ≡ rows.numberIn (now (t .entry)) row from to hex ⌝ }
+// Byte k of the eight at a place; behind them a blank.
+pub(crate) fn cell_letter(place: usize, k: usize) -> u8
+    ensures { λ r. ⌜ r ≡ rows.cellLetter place k ⌝ }
 {
-    let at = start(row);
-    let a = std::num::wrapping_add_usize(at, from);
-    let b = std::num::wrapping_add_usize(at, to);
-    (value(t, a, b, hex) % 4294967296) as u32
+    if 8 <= k {
+        return 32;
+    }
+    at(std::num::wrapping_add_usize(place, k))
 }
 
-pub(crate) fn number(t: &[u8], row: usize, c: Column) -> u32
-    ensures { λ r. ⌜ r ≡ rows.number (now (t .entry)) row c ⌝ }
+// Whether a word is the name in the eight bytes at a place.
+fn same(s: &[u8], w: Word, place: usize) -> bool
+    ensures { λ r. ⌜ r ≡ rows.same (now (s .entry)) w place ⌝ }
 {
-    match c {
-        Column::Place => number_in(t, row, 16, 19, row < REGISTERS),
-        Column::Size => number_in(t, row, 20, 22, false),
-        Column::Count => number_in(t, row, 23, 25, false),
-        Column::Digits => number_in(t, row, 26, 27, false),
-        Column::Shown => number_in(t, row, 28, 29, false),
+    let mut k: usize = 0;
+    while k < 9 {
+        if letter(s, w, k) != cell_letter(place, k) {
+            return false;
+        }
+        k += 1;
     }
+    true
 }
 
 // Whether a row's group is the one whose name stands at a place.
-pub(crate) fn belongs(t: &[u8], row: usize, group: usize) -> bool
-    ensures { λ r. ⌜ r ≡ rows.belongs (now (t .entry)) row group ⌝ }
+pub(crate) fn belongs(row: usize, group: usize) -> bool
+    ensures { λ r. ⌜ r ≡ rows.belongs row group ⌝ }
 {
-    let w = plain(group, std::num::wrapping_add_usize(group, 8));
-    same(t, w, t, start(row))
+    let own = start(row);
+    let mut k: usize = 0;
+    while k < 8 {
+        if cell_letter(group, k) != cell_letter(own, k) {
+            return false;
+        }
+        k += 1;
+    }
+    true
+}
+
+// The number from one byte of a row up to another.
+fn number_in(row: usize, from: usize, to: usize, hex: bool) -> u32
+    ensures { λ r. ⌜ r ≡ rows.numberIn row from to hex ⌝ }
+{
+    let first = start(row);
+    let mut a: u64 = 0;
+    let mut i = from;
+    while i < to {
+        a = with_digit(a, at(std::num::wrapping_add_usize(first, i)), hex);
+        i += 1;
+    }
+    (a % 4294967296) as u32
+}
+
+pub(crate) fn number(row: usize, c: Column) -> u32
+    ensures { λ r. ⌜ r ≡ rows.number row c ⌝ }
+{
+    match c {
+        Column::Place => number_in(row, 16, 19, (REGISTERS <= row) & (row < FIELDS)),
+        Column::Size => number_in(row, 20, 22, false),
+        Column::Count => number_in(row, 23, 25, false),
+        Column::Digits => number_in(row, 26, 27, false),
+        Column::Shown => number_in(row, 28, 29, false),
+    }
 }
 
 // ---- by name
 
-fn is_named(t: &[u8], s: &[u8], w: Word, group: usize, row: usize) -> bool
-    ensures { λ r. ⌜ r ≡ rows.isNamed (now (t .entry)) (now (s .entry)) w group row ⌝ }
+fn is_named(s: &[u8], w: Word, group: usize, row: usize) -> bool
+    ensures { λ r. ⌜ r ≡ rows.isNamed (now (s .entry)) w group row ⌝ }
 {
-    if !same(s, w, t, name_at(row)) {
+    if !same(s, w, name_at(row)) {
         return false;
     }
-    belongs(t, row, group)
+    belongs(row, group)
 }
 
 // The first row of a group with this name.
-fn find(t: &[u8], s: &[u8], w: Word, group: usize) -> usize
-    ensures { λ r. ⌜ r ≡ rows.find (now (t .entry)) (now (s .entry)) w group ⌝ }
+fn find(s: &[u8], w: Word, group: usize) -> usize
+    ensures { λ r. ⌜ r ≡ rows.find (now (s .entry)) w group ⌝ }
 {
     let mut row: usize = 0;
     while row < NONE {
-        if is_named(t, s, w, group, row) {
+        if is_named(s, w, group, row) {
             return row;
         }
         row += 1;
@@ -110,11 +148,11 @@ fn has_index(s: &[u8], w: Word) -> bool
 }
 
 // A row whose name has a percent sign, by the number in the word.
-fn indexed(t: &[u8], s: &[u8], w: Word, row: usize) -> Found
-    ensures { λ r. ⌜ r ≡ rows.indexed (now (t .entry)) (now (s .entry)) w row ⌝ }
+fn indexed(s: &[u8], w: Word, row: usize) -> Found
+    ensures { λ r. ⌜ r ≡ rows.indexed (now (s .entry)) w row ⌝ }
 {
     let n = value(s, w.digits, w.rest, false);
-    if has_index(s, w) & (n < number(t, row, Column::Count) as u64) {
+    if has_index(s, w) & (n < number(row, Column::Count) as u64) {
         return Found {
             row: row,
             index: n as u32,
@@ -127,25 +165,25 @@ fn indexed(t: &[u8], s: &[u8], w: Word, row: usize) -> Found
 }
 
 // By the whole word, and else by the word with a percent sign for its digits.
-pub(crate) fn named(t: &[u8], s: &[u8], w: Word, group: usize) -> Found
-    ensures { λ r. ⌜ r ≡ rows.named (now (t .entry)) (now (s .entry)) w group ⌝ }
+pub(crate) fn named(s: &[u8], w: Word, group: usize) -> Found
+    ensures { λ r. ⌜ r ≡ rows.named (now (s .entry)) w group ⌝ }
 {
-    let row = find(t, s, plain(w.from, w.to), group);
-    if number(t, row, Column::Count) == 1 {
+    let row = find(s, plain(w.from, w.to), group);
+    if number(row, Column::Count) == 1 {
         return Found { row: row, index: 0 };
     }
-    indexed(t, s, w, find(t, s, w, group))
+    indexed(s, w, find(s, w, group))
 }
 
 // ---- by offset
 
 // How many steps of a row's size an offset is behind its place: its index there, or the row's count where it is none.
-fn index_at(t: &[u8], row: usize, offset: u32) -> u32
-    ensures { λ r. ⌜ r ≡ rows.indexAt (now (t .entry)) row offset ⌝ }
+fn index_at(row: usize, offset: u32) -> u32
+    ensures { λ r. ⌜ r ≡ rows.indexAt row offset ⌝ }
 {
-    let place = number(t, row, Column::Place);
-    let size = number(t, row, Column::Size);
-    let count = number(t, row, Column::Count);
+    let place = number(row, Column::Place);
+    let size = number(row, Column::Size);
+    let count = number(row, Column::Count);
     if (offset < place) | (size == 0) {
         return count;
     }
@@ -156,22 +194,17 @@ fn index_at(t: &[u8], row: usize, offset: u32) -> u32
     d / size
 }
 
-fn is_at(t: &[u8], row: usize, offset: u32) -> bool
-    ensures { λ r. ⌜ r ≡ rows.isAt (now (t .entry)) row offset ⌝ }
-{
-    index_at(t, row, offset) < number(t, row, Column::Count)
-}
-
 // The register at an offset.
-pub(crate) fn register_at(t: &[u8], offset: u32) -> Found
-    ensures { λ r. ⌜ r ≡ rows.registerAt (now (t .entry)) offset ⌝ }
+pub(crate) fn register_at(offset: u32) -> Found
+    ensures { λ r. ⌜ r ≡ rows.registerAt offset ⌝ }
 {
-    let mut row: usize = 0;
-    while row < REGISTERS {
-        if is_at(t, row, offset) {
+    let mut row: usize = REGISTERS;
+    while row < FIELDS {
+        let index = index_at(row, offset);
+        if index < number(row, Column::Count) {
             return Found {
                 row: row,
-                index: index_at(t, row, offset),
+                index: index,
             };
         }
         row += 1;

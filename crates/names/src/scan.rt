@@ -79,7 +79,7 @@ pub fn run_end(s: &[u8], from: usize, k: Class) -> usize
 // ---- numbers
 
 // A number with one digit more; 2^32 is no number of 32 bits.
-fn with_digit(a: u64, c: u8, hex: bool) -> u64
+pub(crate) fn with_digit(a: u64, c: u8, hex: bool) -> u64
     ensures { λ r. ⌜ r ≡ scan.withDigit a c hex ⌝ }
 {
     let base = bits::pick_u8(hex, 16, 10);
@@ -160,7 +160,7 @@ pub fn plain(from: usize, to: usize) -> Word
 }
 
 // Letter k of a word, with a percent sign for its digits; behind its end a blank.
-fn letter(s: &[u8], w: Word, k: usize) -> u8
+pub(crate) fn letter(s: &[u8], w: Word, k: usize) -> u8
     ensures { λ r. ⌜ r ≡ scan.letter (now (s .entry)) w k ⌝ }
 {
     if w.rest <= w.digits {
@@ -174,28 +174,4 @@ fn letter(s: &[u8], w: Word, k: usize) -> u8
         return b'%';
     }
     letter_of(s, w.rest, w.to, k - n - 1)
-}
-
-// Byte k of the eight at a place; behind them a blank.
-pub(crate) fn cell_letter(t: &[u8], at: usize, k: usize) -> u8
-    ensures { λ r. ⌜ r ≡ scan.cellLetter (now (t .entry)) at k ⌝ }
-{
-    if 8 <= k {
-        return 32;
-    }
-    byte_at(t, std::num::wrapping_add_usize(at, k))
-}
-
-// Whether a word is the name in the eight bytes at a place of a table.
-pub fn same(s: &[u8], w: Word, t: &[u8], at: usize) -> bool
-    ensures { λ r. ⌜ r ≡ scan.same (now (s .entry)) w (now (t .entry)) at ⌝ }
-{
-    let mut k: usize = 0;
-    while k < 9 {
-        if letter(s, w, k) != cell_letter(t, at, k) {
-            return false;
-        }
-        k += 1;
-    }
-    true
 }

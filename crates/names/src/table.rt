@@ -1,5 +1,38 @@
-// The table of names; what its columns are stands in specs/Rows.antt, the same rows in specs/Table.antt.
-pub(crate) const TABLE: [u8; 4727] = *b"\
+// The list of names, and one byte of it; the same rows stand in specs/Listing.antt, what their columns are in specs/Rows.antt.
+ghost use mathlib.Core.Path.{_≡_};
+ghost use Rattle.names.specs.Listing as listing;
+use super::scan::byte_at;
+
+const TABLE: [u8; 4727] = *b"\
+    step    reset   001 01 01 0 0\
+    step    read    002 01 01 0 0\
+    step    write   003 01 01 0 0\
+    step    idle    004 01 01 0 0\
+    step    bits    005 01 01 0 0\
+    step    activity006 01 01 0 0\
+    step    start   007 01 01 0 0\
+    step    end     008 01 01 0 0\
+    step    frame   009 01 01 0 0\
+    step    error   010 01 01 0 0\
+    step    expect  011 01 01 0 0\
+    step    repeat  012 01 01 0 0\
+    step    done    013 01 01 0 0\
+    step    bytes   014 01 01 0 0\
+    end     good    000 01 01 0 0\
+    end     stuff   001 01 01 0 0\
+    end     form    002 01 01 0 0\
+    end     ack     003 01 01 0 0\
+    end     bit1    004 01 01 0 0\
+    end     bit0    005 01 01 0 0\
+    end     crc     006 01 01 0 0\
+    end     lost    007 01 01 0 0\
+    lines   TX      000 01 01 0 0\
+    lines   FIFO0   001 01 01 0 0\
+    lines   FIFO1   002 01 01 0 0\
+    lines   SCE     003 01 01 0 0\
+    lines   none    004 01 01 0 0\
+    expect  refused 001 01 01 0 0\
+    expect  lines   002 01 01 0 0\
     bxCAN   MCR     000 04 01 0 0\
     bxCAN   MSR     004 04 01 0 0\
     bxCAN   TSR     008 04 01 0 0\
@@ -134,33 +167,11 @@ pub(crate) const TABLE: [u8; 4727] = *b"\
     FS1R    FSC%    000 01 14 0 0\
     FFA1R   FFA%    000 01 14 0 0\
     FA1R    FACT%   000 01 14 0 0\
-    step    reset   001 01 01 0 0\
-    step    read    002 01 01 0 0\
-    step    write   003 01 01 0 0\
-    step    idle    004 01 01 0 0\
-    step    bits    005 01 01 0 0\
-    step    activity006 01 01 0 0\
-    step    start   007 01 01 0 0\
-    step    end     008 01 01 0 0\
-    step    frame   009 01 01 0 0\
-    step    error   010 01 01 0 0\
-    step    expect  011 01 01 0 0\
-    step    repeat  012 01 01 0 0\
-    step    done    013 01 01 0 0\
-    step    bytes   014 01 01 0 0\
-    end     good    000 01 01 0 0\
-    end     stuff   001 01 01 0 0\
-    end     form    002 01 01 0 0\
-    end     ack     003 01 01 0 0\
-    end     bit1    004 01 01 0 0\
-    end     bit0    005 01 01 0 0\
-    end     crc     006 01 01 0 0\
-    end     lost    007 01 01 0 0\
-    lines   TX      000 01 01 0 0\
-    lines   FIFO0   001 01 01 0 0\
-    lines   FIFO1   002 01 01 0 0\
-    lines   SCE     003 01 01 0 0\
-    lines   none    004 01 01 0 0\
-    expect  refused 001 01 01 0 0\
-    expect  lines   002 01 01 0 0\
 ";
+
+// Byte i of the rows, one behind the other; behind the last a blank.
+pub(crate) fn at(i: usize) -> u8
+    ensures { λ r. ⌜ r ≡ listing.tableByte i ⌝ }
+{
+    byte_at(&TABLE, i)
+}

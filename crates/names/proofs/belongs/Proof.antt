@@ -3,9 +3,6 @@ use borrow.Author.Needs.{needs}
 use Rattle.names.proofs.belongs.Statement.{statement}
 use Rattle.names.proofs.belongs.Tie as tie
 
-slice-aggregate-belongs : tie.Need-slice-aggregate-belongs
-slice-aggregate-belongs c = search needs
-
 group-at-requires : tie.Need-group-at-requires
 group-at-requires c κs = search needs
 
@@ -13,9 +10,9 @@ belongs-requires : tie.Need-belongs-requires
 belongs-requires c κs = search needs
 
 returns : tie.Need-returns
-unfolding tables.belongs tables.table tables.spelled tables.bytes
+unfolding tables.belongs
 returns c = simp (c .belongs .ensures, c .before .group-at .ensures)
 
 pub belongs-spec : {M : Type 1} → statement M
 belongs-spec =
-    tie.close (tie.spec slice-aggregate-belongs group-at-requires belongs-requires returns)
+    tie.close (tie.spec group-at-requires belongs-requires returns)

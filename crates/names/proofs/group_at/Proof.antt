@@ -15,26 +15,14 @@ name-at-requires c κs = search needs
 enum-told-2 : tie.Need-enum-told-2
 enum-told-2 c = search needs
 
-start-requires : tie.Need-start-requires
-start-requires c κs = search needs
-
 enum-told-3 : tie.Need-enum-told-3
 enum-told-3 c = search needs
-
-start-requires-2 : tie.Need-start-requires-2
-start-requires-2 c κs = search needs
 
 enum-told-4 : tie.Need-enum-told-4
 enum-told-4 c = search needs
 
-start-requires-3 : tie.Need-start-requires-3
-start-requires-3 c κs = search needs
-
 enum-told-5 : tie.Need-enum-told-5
 enum-told-5 c = search needs
-
-start-requires-4 : tie.Need-start-requires-4
-start-requires-4 c κs = search needs
 
 returns : tie.Need-returns
 unfolding tables.groupAt
@@ -46,19 +34,19 @@ returns-2 c = simp (c .name-at .ensures, c .before .before .g .given .1)
 
 returns-3 : tie.Need-returns-3
 unfolding tables.groupAt
-returns-3 c = simp (c .start .ensures .0, c .before .enum-told2 .given .1)
+returns-3 c = simp (c .enum-told2 .given .1)
 
 returns-4 : tie.Need-returns-4
 unfolding tables.groupAt
-returns-4 c = simp (c .start2 .ensures .0, c .before .enum-told3 .given .1)
+returns-4 c = simp (c .enum-told3 .given .1)
 
 returns-5 : tie.Need-returns-5
 unfolding tables.groupAt
-returns-5 c = simp (c .start3 .ensures .0, c .before .enum-told4 .given .1)
+returns-5 c = simp (c .enum-told4 .given .1)
 
 returns-6 : tie.Need-returns-6
 unfolding tables.groupAt
-returns-6 c = simp (c .start4 .ensures .0, c .before .enum-told5 .given .1)
+returns-6 c = simp (c .enum-told5 .given .1)
 
 pub group-at-spec : {M : Type 1} → statement M
 group-at-spec =
@@ -68,13 +56,9 @@ group-at-spec =
     enum-known-g
     name-at-requires
     enum-told-2
-    start-requires
     enum-told-3
-    start-requires-2
     enum-told-4
-    start-requires-3
     enum-told-5
-    start-requires-4
     returns
     returns-2
     returns-3

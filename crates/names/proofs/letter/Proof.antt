@@ -3,9 +3,6 @@ use borrow.Author.Needs.{needs}
 use Rattle.names.proofs.letter.Statement.{statement}
 use Rattle.names.proofs.letter.Tie as tie
 
-slice-aggregate-cell-letter : tie.Need-slice-aggregate-cell-letter
-slice-aggregate-cell-letter c = search needs
-
 name-at-requires : tie.Need-name-at-requires
 name-at-requires c κs = search needs
 
@@ -13,9 +10,9 @@ cell-letter-requires : tie.Need-cell-letter-requires
 cell-letter-requires c κs = search needs
 
 returns : tie.Need-returns
-unfolding tables.letter tables.table tables.spelled tables.bytes
+unfolding tables.letter
 returns c = simp (c .cell-letter .ensures, c .before .name-at .ensures)
 
 pub letter-spec : {M : Type 1} → statement M
 letter-spec =
-    tie.close (tie.spec slice-aggregate-cell-letter name-at-requires cell-letter-requires returns)
+    tie.close (tie.spec name-at-requires cell-letter-requires returns)

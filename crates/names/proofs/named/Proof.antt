@@ -3,9 +3,6 @@ use borrow.Author.Needs.{needs}
 use Rattle.names.proofs.named.Statement.{statement}
 use Rattle.names.proofs.named.Tie as tie
 
-slice-aggregate-named : tie.Need-slice-aggregate-named
-slice-aggregate-named c = search needs
-
 group-at-requires : tie.Need-group-at-requires
 group-at-requires c κs = search needs
 
@@ -13,8 +10,8 @@ named-requires : tie.Need-named-requires
 named-requires c κs = search needs
 
 returns : tie.Need-returns
-unfolding tables.named tables.table tables.spelled tables.bytes
+unfolding tables.named
 returns c = simp (c .named .ensures, c .before .group-at .ensures)
 
 pub named-spec : {M : Type 1} → statement M
-named-spec = tie.close (tie.spec slice-aggregate-named group-at-requires named-requires returns)
+named-spec = tie.close (tie.spec group-at-requires named-requires returns)

@@ -3,15 +3,12 @@ use borrow.Author.Needs.{needs}
 use Rattle.names.proofs.number.Statement.{statement}
 use Rattle.names.proofs.number.Tie as tie
 
-slice-aggregate-number : tie.Need-slice-aggregate-number
-slice-aggregate-number c = search needs
-
 number-requires : tie.Need-number-requires
 number-requires c κs = search needs
 
 returns : tie.Need-returns
-unfolding tables.number tables.table tables.spelled tables.bytes
+unfolding tables.number
 returns c = simp (c .number .ensures)
 
 pub number-spec : {M : Type 1} → statement M
-number-spec = tie.close (tie.spec slice-aggregate-number number-requires returns)
+number-spec = tie.close (tie.spec number-requires returns)

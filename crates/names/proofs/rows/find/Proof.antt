@@ -7,10 +7,10 @@ use Rattle.names.proofs.rows.find.Statement.{statement}
 use Rattle.names.proofs.rows.find.Tie as tie
 
 abbrev Inv-loop : tie.InvT-loop
-Inv-loop t s w group row₀ row = rows.findOn t s w group row (163 - row) ≡ rows.find t s w group
+Inv-loop s w group row₀ row = rows.findOn s w group row (163 - row) ≡ rows.find s w group
 
 abbrev μ-loop : tie.MeasureT-loop
-μ-loop t s w group row₀ row = 163 - row
+μ-loop s w group row₀ row = 163 - row
 
 loop-holds : tie.Need-loop-holds Inv-loop μ-loop
 unfolding rows.find
@@ -21,9 +21,9 @@ is-named-requires c κs = search needs
 
 returns : tie.Need-returns Inv-loop μ-loop
 returns c =
-    let a = c .before .before .before .before .before .before .args in
+    let a = c .before .before .before .before .before .args in
     let l = c .before .before .before .loop in
-    sym (find-stops (a .t .now) (a .s .now) (a .w) (a .group) (l .row) 163 (c .before .before .loop-test .taken) (cc)) ∙ l .inv
+    sym (find-stops (a .s .now) (a .w) (a .group) (l .row) 163 (c .before .before .loop-test .taken) (sym (c .before .is-named .ensures) ∙ c .if1 .taken)) ∙ l .inv
 
 add-row : tie.Need-add-row Inv-loop μ-loop
 add-row c = search needs
@@ -33,15 +33,15 @@ loop-less c = search needs
 
 loop-again : tie.Need-loop-again Inv-loop μ-loop
 loop-again c =
-    let a = c .before .before .before .before .before .before .args in
+    let a = c .before .before .before .before .before .args in
     let l = c .before .before .before .loop in
-    sym (find-on (a .t .now) (a .s .now) (a .w) (a .group) (l .row) 163 (c .before .before .loop-test .taken) (cc)) ∙ l .inv
+    sym (find-on (a .s .now) (a .w) (a .group) (l .row) 163 (c .before .before .loop-test .taken) (sym (c .before .is-named .ensures) ∙ c .if1 .left)) ∙ l .inv
 
 returns-2 : tie.Need-returns-2 Inv-loop μ-loop
 returns-2 c =
-    let a = c .before .before .before .before .args in
+    let a = c .before .before .before .args in
     let l = c .before .loop in
-    sym (find-ended (a .t .now) (a .s .now) (a .w) (a .group) (l .row) 163 (c .loop-test .left)) ∙ l .inv
+    sym (find-ended (a .s .now) (a .w) (a .group) (l .row) 163 (c .loop-test .left)) ∙ l .inv
 
 pub find-spec : {M : Type 1} → statement M
 find-spec =

@@ -24,20 +24,20 @@ unfolding rows.indexAt
 returns c = simp (c .if1 .taken, ← (c .before .number3 .ensures), ← (c .before .before .number2 .ensures), ← (c .before .before .before .number .ensures))
 
 sub-d : tie.Need-sub-d
-sub-d c = omega (arith, ltb-false (c .before .before .before .before .before .args .offset) (c .before .before .before .number .result) (or-l _ _ (c .if1 .left)))
+sub-d c = omega (arith, ltb-false (c .before .before .before .before .args .offset) (c .before .before .before .number .result) (or-l _ _ (c .if1 .left)))
 
 not-zero : (n : ℕ) → eqb n 0 ≡ false → 0 < n
 not-zero n h = let z = eqb-false n 0 h in omega arith
 
 rem-if2 : tie.Need-rem-if2
-rem-if2 c = not-zero (c .before .before .number2 .result) (or-r (ltb (c .before .before .before .before .before .args .offset) (c .before .before .before .number .result)) _ (c .if1 .left))
+rem-if2 c = not-zero (c .before .before .number2 .result) (or-r (ltb (c .before .before .before .before .args .offset) (c .before .before .before .number .result)) _ (c .if1 .left))
 
 returns-2 : tie.Need-returns-2
 unfolding rows.indexAt
 returns-2 c = simp (ne-eqb _ _ (c .if2 .taken), c .before .if1 .left, ← (c .before .before .number3 .ensures), ← (c .before .before .before .number2 .ensures), ← (c .before .before .before .before .number .ensures))
 
 div-result : tie.Need-div-result
-div-result c = not-zero (c .before .before .before .number2 .result) (or-r (ltb (c .before .before .before .before .before .before .args .offset) (c .before .before .before .before .number .result)) _ (c .before .if1 .left))
+div-result c = not-zero (c .before .before .before .number2 .result) (or-r (ltb (c .before .before .before .before .before .args .offset) (c .before .before .before .before .number .result)) _ (c .before .if1 .left))
 
 returns-3 : tie.Need-returns-3
 unfolding rows.indexAt

@@ -18,8 +18,8 @@ number-requires c κs = search needs
 cast-if1 : tie.Need-cast-if1
 cast-if1 c = search needs
 
-cast-t12 : tie.Need-cast-t12
-cast-t12 c = omega (arith, ltb-true (c .before .before .before .value .result) (c .before .number .result) (and-r (c .before .before .has-index .result) _ (c .if1 .taken)))
+cast-t11 : tie.Need-cast-t11
+cast-t11 c = omega (arith, ltb-true (c .before .before .before .value .result) (c .before .number .result) (and-r (c .before .before .has-index .result) _ (c .if1 .taken)))
 
 returns : tie.Need-returns
 unfolding rows.indexed
@@ -37,6 +37,6 @@ indexed-spec =
     has-index-requires
     number-requires
     cast-if1
-    cast-t12
+    cast-t11
     returns
     returns-2)

@@ -14,7 +14,7 @@ number-requires : tie.Need-number-requires
 number-requires c κs = search needs
 
 returns : tie.Need-returns
-unfolding rows.named
+unfolding rows.named rows.alone
 returns c =
     let f = rw (c .before .before .before .plain .ensures) at (c .before .before .find .ensures) in
     simp (← f, ← (c .before .number .ensures), eq-eqb _ _ (c .if1 .taken))
@@ -26,7 +26,7 @@ indexed-requires : tie.Need-indexed-requires
 indexed-requires c κs = search needs
 
 returns-2 : tie.Need-returns-2
-unfolding rows.named
+unfolding rows.named rows.alone
 returns-2 c =
     let f = rw (c .before .before .before .before .before .plain .ensures) at (c .before .before .before .before .find .ensures) in
     simp (c .indexed .ensures, c .before .find2 .ensures, ← f, ← (c .before .before .before .number .ensures), ne-eqb _ _ (c .before .before .if1 .left))

@@ -1,5 +1,6 @@
 use mathlib.Core.Path.{_≡_, refl, sym, _∙_}
 use Prim.Native.Nat.{_-_}
+use borrow.Author.Tests.{lt-ltb, le-ltb}
 use borrow.Author.Needs.{needs}
 use Rattle.names.specs.Rows as rows
 use Rattle.names.proofs.Loops.{register-on, register-stops, register-ended}
@@ -7,26 +8,26 @@ use Rattle.names.proofs.rows.register_at.Statement.{statement}
 use Rattle.names.proofs.rows.register_at.Tie as tie
 
 abbrev Inv-loop : tie.InvT-loop
-Inv-loop t offset row₀ row = rows.registerOn t offset row (23 - row) ≡ rows.registerAt t offset
+Inv-loop offset row₀ row = rows.registerOn offset row (52 - row) ≡ rows.registerAt offset
 
 abbrev μ-loop : tie.MeasureT-loop
-μ-loop t offset row₀ row = 23 - row
+μ-loop offset row₀ row = 52 - row
 
 loop-holds : tie.Need-loop-holds Inv-loop μ-loop
 unfolding rows.registerAt
 loop-holds c = refl
 
-is-at-requires : tie.Need-is-at-requires Inv-loop μ-loop
-is-at-requires c κs = search needs
-
 index-at-requires : tie.Need-index-at-requires Inv-loop μ-loop
 index-at-requires c κs = search needs
 
+number-requires : tie.Need-number-requires Inv-loop μ-loop
+number-requires c κs = search needs
+
 returns : tie.Need-returns Inv-loop μ-loop
 returns c =
-    let a = c .before .before .before .before .before .before .args in
+    let a = c .before .before .before .before .before .args in
     let l = c .before .before .before .before .loop in
-    rw (c .index-at .ensures) (sym (register-stops (a .t .now) (a .offset) (l .row) 23 (c .before .before .before .loop-test .taken) (cc)) ∙ l .inv)
+    rw (c .before .before .index-at .ensures) (sym (register-stops (a .offset) (l .row) 52 (c .before .before .before .loop-test .taken) (rw (← (c .before .before .index-at .ensures), ← (c .before .number .ensures)) (lt-ltb _ _ (c .if1 .taken)))) ∙ l .inv)
 
 add-row : tie.Need-add-row Inv-loop μ-loop
 add-row c = search needs
@@ -37,14 +38,14 @@ loop-less c = search needs
 loop-again : tie.Need-loop-again Inv-loop μ-loop
 loop-again c =
     let a = c .before .before .before .before .before .args in
-    let l = c .before .before .before .loop in
-    sym (register-on (a .t .now) (a .offset) (l .row) 23 (c .before .before .loop-test .taken) (cc)) ∙ l .inv
+    let l = c .before .before .before .before .loop in
+    sym (register-on (a .offset) (l .row) 52 (c .before .before .before .loop-test .taken) (rw (← (c .before .before .index-at .ensures), ← (c .before .number .ensures)) (le-ltb _ _ (c .if1 .left)))) ∙ l .inv
 
 returns-2 : tie.Need-returns-2 Inv-loop μ-loop
 returns-2 c =
-    let a = c .before .before .before .args in
+    let a = c .before .before .args in
     let l = c .before .loop in
-    sym (register-ended (a .t .now) (a .offset) (l .row) 23 (c .loop-test .left)) ∙ l .inv
+    sym (register-ended (a .offset) (l .row) 52 (c .loop-test .left)) ∙ l .inv
 
 pub register-at-spec : {M : Type 1} → statement M
 register-at-spec =
@@ -53,8 +54,8 @@ register-at-spec =
     Inv-loop
     μ-loop
     loop-holds
-    is-at-requires
     index-at-requires
+    number-requires
     returns
     add-row
     loop-less

@@ -1,6 +1,6 @@
 use Rattle.names.proofs.Loops.{run-on, run-stops, run-ended}
 use borrow.Author.Tests.{not-true, not-false}
-use mathlib.Core.Path.{_≡_, refl, sym, _∙_}
+use mathlib.Core.Path.{_≡_, refl, sym, ap, _∙_}
 use Prim.Native.Nat.{_-_}
 use borrow.Author.Needs.{needs}
 use lib.ListN.{length}
@@ -28,7 +28,7 @@ returns : tie.Need-returns Inv-loop μ-loop
 returns c =
     let a = c .before .before .before .before .before .before .args in
     let l = c .before .before .before .before .loop in
-    sym (run-stops (a .s .now) (l .i) (length (a .s .now)) (a .k) (c .before .before .before .loop-test .taken) (cc (not-true (c .before .is-of .result) (c .if1 .taken)))) ∙ l .inv
+    sym (run-stops (a .s .now) (l .i) (length (a .s .now)) (a .k) (c .before .before .before .loop-test .taken) (sym (c .before .is-of .ensures ∙ ap (scan.isOf (a .k)) (c .before .before .byte-at .ensures)) ∙ not-true (c .before .is-of .result) (c .if1 .taken))) ∙ l .inv
 
 add-i : tie.Need-add-i Inv-loop μ-loop
 add-i c = search needs
@@ -40,7 +40,7 @@ loop-again : tie.Need-loop-again Inv-loop μ-loop
 loop-again c =
     let a = c .before .before .before .before .before .before .args in
     let l = c .before .before .before .before .loop in
-    sym (run-on (a .s .now) (l .i) (length (a .s .now)) (a .k) (c .before .before .before .loop-test .taken) (cc (not-false (c .before .is-of .result) (c .if1 .left)))) ∙ l .inv
+    sym (run-on (a .s .now) (l .i) (length (a .s .now)) (a .k) (c .before .before .before .loop-test .taken) (sym (c .before .is-of .ensures ∙ ap (scan.isOf (a .k)) (c .before .before .byte-at .ensures)) ∙ not-false (c .before .is-of .result) (c .if1 .left))) ∙ l .inv
 
 returns-2 : tie.Need-returns-2 Inv-loop μ-loop
 returns-2 c =

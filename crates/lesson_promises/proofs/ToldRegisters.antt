@@ -1,4 +1,4 @@
--- The registers of the table are the model's. The numbers of the 23 rows are computed once; below 0x400 every offset is tried, and
+-- The registers of the table are the model's. The numbers of the 23 rows are computed once; below 0x300 every offset is tried, and
 -- from there on no row and no register of the model reaches.
 use mathlib.Core.Bool.{Bool, true, false, not, _&&_, _||_, true≢false, false≢true}
 use mathlib.Core.Path.{_≡_, refl}
@@ -15,16 +15,15 @@ use Rattle.model.specs.Registers.{isAbsent, controlRegister, mailboxRegister, o
 use Rattle.model.specs.declared.Register.the-variants.{Absent}
 use Rattle.model.proofs.Choices.{Is, and-l, and-r, pick-cases}
 use Rattle.model.proofs.Bounded.{allBelow, each-below}
 use Rattle.names.specs.Rows as rows
-use Rattle.names.specs.Rows.{nowhere, indexAt, isAt, registerOn}
-use Rattle.names.specs.Table.{table, number, place, registerAt}
-use Rattle.names.specs.Told.{lookedUp, registerName, RegisterNames}
+use Rattle.names.specs.Rows.{nowhere, indexIn, indexAt, isAt, registerOn}
+use Rattle.names.specs.Table.{place, registerAt}
+use Rattle.lesson_promises.specs.Told.{lookedUp, registerName, RegisterNames}
 use Rattle.names.specs.declared.rows.Found.{Found}
 use Rattle.names.specs.declared.rows.Column.{Column}
 use Rattle.names.specs.declared.rows.Column.the-variants.{Place, Size, Count}
 use Rattle.names.specs.declared.Group.the-variants.{Registers}
-use Rattle.names.proofs.Lookups.{upAlong, up-along}
-use Rattle.names.proofs.ToldNames.{lookups}
+use Rattle.lesson_promises.proofs.ToldNames.{lookups}
 
 -- ---- the rows as numbers
 
@@ -38,33 +37,33 @@ abbrev counts : List ℕ
 counts = 1 ∷ 1 ∷ 1 ∷ 1 ∷ 1 ∷ 1 ∷ 1 ∷ 1 ∷ 3 ∷ 3 ∷ 3 ∷ 3 ∷ 2 ∷ 2 ∷ 2 ∷ 2 ∷ 1 ∷ 1 ∷ 1 ∷ 1 ∷ 1 ∷ 14 ∷ 14 ∷ []
 
 abbrev place′ : ℕ → ℕ
-place′ row = getD places row 0
+place′ k = getD places k 0
 
 abbrev size′ : ℕ → ℕ
-size′ row = getD sizes row 0
+size′ k = getD sizes k 0
 
 abbrev count′ : ℕ → ℕ
-count′ row = getD counts row 0
+count′ k = getD counts k 0
 
-all-known : (c : Column) (l : List ℕ) → Is (allBelow (λ (row : ℕ). eqb (rows.number table row c) (getD l row 0)) 23)
-    → (row : ℕ) → row < 23 → rows.number table row c ≡ getD l row 0
-all-known c l t row h = eqb-true (rows.number table row c) (getD l row 0) (each-below (λ (row : ℕ). eqb (rows.number table row c) (getD l row 0)) 23 t row h)
+all-known : (c : Column) (l : List ℕ) → Is (allBelow (λ (k : ℕ). eqb (rows.number (k + 29) c) (getD l k 0)) 23)
+    → (k : ℕ) → k < 23 → rows.number (k + 29) c ≡ getD l k 0
+all-known c l t k h = eqb-true (rows.number (k + 29) c) (getD l k 0) (each-below (λ (k : ℕ). eqb (rows.number (k + 29) c) (getD l k 0)) 23 t k h)
 
-known-place : (row : ℕ) → row < 23 → rows.number table row Place ≡ place′ row
+known-place : (k : ℕ) → k < 23 → rows.number (k + 29) Place ≡ place′ k
 unfolding lookups allBelow
 known-place = all-known Place places refl
 
-known-size : (row : ℕ) → row < 23 → rows.number table row Size ≡ size′ row
+known-size : (k : ℕ) → k < 23 → rows.number (k + 29) Size ≡ size′ k
 unfolding lookups allBelow
 known-size = all-known Size sizes refl
 
-known-count : (row : ℕ) → row < 23 → rows.number table row Count ≡ count′ row
+known-count : (k : ℕ) → k < 23 → rows.number (k + 29) Count ≡ count′ k
 unfolding lookups allBelow
 known-count = all-known Count counts refl
 
--- no row reaches 0x400
+-- no row reaches 0x300
 abbrev low : ℕ → Bool
-low row = ltb 0 (size′ row) && leb (place′ row + count′ row * size′ row) 0x400
+low k = ltb 0 (size′ k) && leb (place′ k + count′ k * size′ k) 0x300
 
 all-low : Is (allBelow low 23)
 unfolding allBelow
@@ -72,43 +71,41 @@ all-low = refl
 
 -- ---- the same walk over these numbers
 
-abbrev indexIn : ℕ → ℕ → ℕ → ℕ → ℕ
-indexIn p s c o = pick (ltb o p || eqb s 0) c (pick (not (eqb ((o - p) % s) 0)) c ((o - p) / s))
-
 unfoldable along : ℕ → ℕ → ℕ → Found
-along o row zero = nowhere
-along o row (suc n) =
-    pick (ltb (indexIn (place′ row) (size′ row) (count′ row) o) (count′ row))
-    (record { row = row; index = indexIn (place′ row) (size′ row) (count′ row) o })
-    (along o (row + 1) n)
+along o k zero = nowhere
+along o k (suc n) =
+    pick (ltb (indexIn (place′ k) (size′ k) (count′ k) o) (count′ k))
+    (record { row = k + 29; index = indexIn (place′ k) (size′ k) (count′ k) o })
+    (along o (k + 1) n)
 
-walked : (o row n : ℕ) → row + n ≤ 23 → registerOn table o row n ≡ along o row n
+walked : (o k n : ℕ) → k + n ≤ 23 → registerOn o (k + 29) n ≡ along o k n
 unfolding registerOn isAt indexAt along
-walked o row zero h = refl
-walked o row (suc n) h =
-    rw (known-place row (omega arith), known-size row (omega arith), known-count row (omega arith), walked o (row + 1) n (omega arith))
+walked o k zero h = refl
+walked o k (suc n) h =
+    let e : k + 29 + 1 ≡ k + 1 + 29 = omega arith in
+    rw (known-place k (omega arith), known-size k (omega arith), known-count k (omega arith), e, walked o (k + 1) n (omega arith))
 
 register-along : (o : ℕ) → registerAt o ≡ along o 0 23
 unfolding registerAt rows.registerAt
 register-along o = walked o 0 23 (omega arith)
 
--- ---- from 0x400 on
+-- ---- from 0x300 on
 
-reaches : (p s c o : ℕ) → 0 < s → p + c * s ≤ 0x400 → 0x400 ≤ o → c ≤ indexIn p s c o
+reaches : (p s c o : ℕ) → 0 < s → p + c * s ≤ 0x300 → 0x300 ≤ o → c ≤ indexIn p s c o
 reaches p s c o h k l =
     pick-cases (λ (i : ℕ). c ≤ i) (ltb o p || eqb s 0) _ _ (λ _. omega arith)
     (λ _. pick-cases (λ (i : ℕ). c ≤ i) (not (eqb ((o - p) % s) 0)) _ _ (λ _. omega arith) (λ _. (le-div-iff-mul-le h) .1 (omega arith)))
 
-nothing-above : (o row n : ℕ) → 0x400 ≤ o → row + n ≤ 23 → along o row n ≡ nowhere
+nothing-above : (o k n : ℕ) → 0x300 ≤ o → k + n ≤ 23 → along o k n ≡ nowhere
 unfolding along
-nothing-above o row zero l h = refl
-nothing-above o row (suc n) l h =
-    let k = each-below low 23 all-low row (omega arith) in
-    let s = ltb-true 0 (size′ row) (and-l (ltb 0 (size′ row)) _ k) in
-    let e = leb-true (place′ row + count′ row * size′ row) 0x400 (and-r (ltb 0 (size′ row)) _ k) in
-    rw (le-ltb (indexIn (place′ row) (size′ row) (count′ row) o) (count′ row) (reaches (place′ row) (size′ row) (count′ row) o s e l)) (nothing-above o (row + 1) n l (omega arith))
+nothing-above o k zero l h = refl
+nothing-above o k (suc n) l h =
+    let r = each-below low 23 all-low k (omega arith) in
+    let s = ltb-true 0 (size′ k) (and-l (ltb 0 (size′ k)) _ r) in
+    let e = leb-true (place′ k + count′ k * size′ k) 0x300 (and-r (ltb 0 (size′ k)) _ r) in
+    rw (le-ltb (indexIn (place′ k) (size′ k) (count′ k) o) (count′ k) (reaches (place′ k) (size′ k) (count′ k) o s e l)) (nothing-above o (k + 1) n l (omega arith))
 
-absent-above : (o : ℕ) → 0x400 ≤ o → model.registerAt o ≡ Absent
+absent-above : (o : ℕ) → 0x300 ≤ o → model.registerAt o ≡ Absent
 unfolding model.registerAt filterRegister
 absent-above o l = simp (le-ltb o 0x20 (omega arith), le-ltb o 0x200 (omega arith), ne-eqb o 0x200 (λ e. omega arith), ne-eqb o 0x204 (λ e. omega arith), ne-eqb o 0x20C (λ e. omega arith), ne-eqb o 0x214 (λ e. omega arith), ne-eqb o 0x21C (λ e. omega arith), le-leb 0x240 o (omega arith), le-ltb o 0x2B0 (omega arith))
 
@@ -123,22 +120,22 @@ abbrev nameAt : ℕ → List ℕ
 nameAt o = registerName (model.registerAt o)
 
 abbrev agreesAlong : ℕ → Bool
-agreesAlong o = agrees (isAbsent (model.registerAt o)) (along o 0 23) (upAlong (nameAt o) Registers) o
+agreesAlong o = agrees (isAbsent (model.registerAt o)) (along o 0 23) (lookedUp (nameAt o) Registers) o
 
-all-below : Is (allBelow agreesAlong 0x400)
+all-below : Is (allBelow agreesAlong 0x300)
 unfolding lookups allBelow agrees along registerName model.registerAt controlRegister blockRegister mailboxRegister outputRegister filterRegister bankRegister
 all-below = refl
 
-agreed-above : (o : ℕ) → 0x400 ≤ o → Is (agrees (isAbsent (model.registerAt o)) (registerAt o) (lookedUp (nameAt o) Registers) o)
+agreed-above : (o : ℕ) → 0x300 ≤ o → Is (agrees (isAbsent (model.registerAt o)) (registerAt o) (lookedUp (nameAt o) Registers) o)
 unfolding agrees
 agreed-above o l = rw (absent-above o l, register-along o, nothing-above o 0 23 l (omega arith))
 
 agreed : (o : ℕ) → Is (agrees (isAbsent (model.registerAt o)) (registerAt o) (lookedUp (nameAt o) Registers) o)
-agreed o = go (ltb o 0x400) refl
+agreed o = go (ltb o 0x300) refl
   where
-    go : (b : Bool) → ltb o 0x400 ≡ b → Is (agrees (isAbsent (model.registerAt o)) (registerAt o) (lookedUp (nameAt o) Registers) o)
-    go true e = rw (register-along o, up-along (nameAt o) Registers) (each-below agreesAlong 0x400 all-below o (ltb-true o 0x400 e))
-    go false e = agreed-above o (ltb-false o 0x400 e)
+    go : (b : Bool) → ltb o 0x300 ≡ b → Is (agrees (isAbsent (model.registerAt o)) (registerAt o) (lookedUp (nameAt o) Registers) o)
+    go true e = rw (register-along o) (each-below agreesAlong 0x300 all-below o (ltb-true o 0x300 e))
+    go false e = agreed-above o (ltb-false o 0x300 e)
 
 module _ (f g : Found) (o : ℕ) where
   none-there : (a : Bool) → Is (agrees a f g o) → a ≡ true → f .row ≡ 163

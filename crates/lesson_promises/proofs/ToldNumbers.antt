@@ -6,9 +6,9 @@ use native.Mathlib.Omega.{arith}
 use lib.Dec.{eqb}
 use borrow.Author.Tests.{eqb-true, lt-ltb, lt-leb}
 use Rattle.model.proofs.Bounded.{allBelow, each-below}
 use Rattle.names.specs.Scan.{byteAt, digitOf, baseOf, withDigit, valueOn, value}
 use Rattle.names.specs.Table.{bytes}
-use Rattle.names.specs.Told.{digit, hexDigits, decimalDigits, Numbers}
+use Rattle.lesson_promises.specs.Told.{digit, hexDigits, decimalDigits, Numbers}
 
 digit-back : (v : ℕ) → v < 16 → digitOf (digit v) ≡ v
 unfolding digitOf allBelow
