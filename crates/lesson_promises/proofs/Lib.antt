@@ -3,3 +3,4 @@ pub mod ToldNumbers
 pub mod ToldBits
 pub mod ToldRegisters
 pub mod Read
+pub mod Telling

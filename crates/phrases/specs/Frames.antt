@@ -15,10 +15,10 @@ use Rattle.phrases.specs.Names.{nameText, leading}
 
 -- the word of a tag; 14 is `bytes`
 abbrev pub wordText : ℕ → List ℕ
-wordText tag = nameText (133 + tag) 0
+wordText tag = nameText (tag - 1) 0
 
 abbrev pub begun : ℕ → List ℕ
-begun tag = leading (133 + tag)
+begun tag = leading (tag - 1)
 
 -- ---- bytes
 

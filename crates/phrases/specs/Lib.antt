@@ -1,4 +1,3 @@
 pub mod Names
 pub mod Frames
 pub mod Steps
-pub mod Told

@@ -84,9 +84,9 @@ unfoldable pub fieldsOn : ℕ → ℕ → ℕ → List Found
 fieldsOn register row zero = []
 fieldsOn register row (suc n) = ownFields register row ++ fieldsOn register (row + 1) n
 
--- rows 23 to 133 are fields
+-- rows 52 to 162 are fields
 unfoldable pub fieldsOf : ℕ → List Found
-fieldsOf register = fieldsOn register 23 111
+fieldsOf register = fieldsOn register 52 111
 
 -- ---- several fields
 

@@ -22,9 +22,9 @@ writtenText o w full =
 unfoldable pub writeText : ℕ → ℕ → Bool → List ℕ
 writeText o w full = begun 3 ++ (registerText o ++ writtenText o w full)
 
--- rows 148 to 155 are the results from 0 to 7
+-- rows 14 to 21 are the results from 0 to 7
 unfoldable pub resultText : ℕ → List ℕ
-resultText r = pick (ltb r 8) (nameText (148 + r) 0) (decimal r)
+resultText r = pick (ltb r 8) (nameText (14 + r) 0) (decimal r)
 
 unfoldable pub errorText : ℕ → ℕ → List ℕ
 errorText code by = begun 10 ++ (decimal code ++ (32 ∷ decimal by))

@@ -43,7 +43,7 @@ fn pairs(l: Line, s: &[u8], blank: bool) -> Line
 pub(crate) fn bytes(l: Line, s: &[u8]) -> Line
     ensures { λ r. ⌜ r ≡ lines.putAll l (framing.bytesText (now (s .entry))) ⌝ }
 {
-    pairs(name(l, 147, 0), s, true)
+    pairs(name(l, 13, 0), s, true)
 }
 
 fn record(x: Frame) -> [u8; 16]
@@ -122,7 +122,7 @@ fn code(l: Line, length: u8) -> Line
 fn worded(l: Line, x: Frame) -> Line
     ensures { λ r. ⌜ r ≡ lines.putAll l (framing.wordedText x) ⌝ }
 {
-    let a = identifier(begun(l, 142), x.identifier);
+    let a = identifier(begun(l, 8), x.identifier);
     let b = payload(put(a, b"#"), x);
     code(b, x.length)
 }

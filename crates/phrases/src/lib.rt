@@ -175,8 +175,8 @@ fn all_fields(l: Line, register: usize, w: u32) -> Said
     ensures { λ r. ⌜ r ≡ naming.saidOf l (naming.fieldsOf register) w ⌝ }
 {
     let mut t = Said { line: l, rest: w };
-    let mut row: usize = 23;
-    while row < 134 {
+    let mut row: usize = 52;
+    while row < 163 {
         t = with_own(t, register, row, w);
         row += 1;
     }
@@ -225,14 +225,14 @@ fn written(l: Line, offset: u32, w: u32, full: bool) -> Line
 fn write(l: Line, offset: u32, w: u32, full: bool) -> Line
     ensures { λ r. ⌜ r ≡ lines.putAll l (steps.writeText offset w full) ⌝ }
 {
-    written(register(begun(l, 136), offset), offset, w, full)
+    written(register(begun(l, 2), offset), offset, w, full)
 }
 
 fn outcome(l: Line, result: u8) -> Line
     ensures { λ r. ⌜ r ≡ lines.putAll l (steps.resultText result) ⌝ }
 {
     if result < 8 {
-        return name(l, 148 + result as usize, 0);
+        return name(l, 14 + result as usize, 0);
     }
     decimal(l, result as u64)
 }
@@ -240,7 +240,7 @@ fn outcome(l: Line, result: u8) -> Line
 fn error(l: Line, code: u8, by: u8) -> Line
     ensures { λ r. ⌜ r ≡ lines.putAll l (steps.errorText code by) ⌝ }
 {
-    let a = decimal(begun(l, 143), code as u64);
+    let a = decimal(begun(l, 9), code as u64);
     decimal(put(a, b" "), by as u64)
 }
 
@@ -249,14 +249,14 @@ pub fn step(l: Line, e: Step, full: bool) -> Line
     ensures { λ r. ⌜ r ≡ lines.putAll l (steps.stepText e full) ⌝ }
 {
     match e {
-        Step::Reset => name(l, 134, 0),
-        Step::Read(offset) => register(begun(l, 135), offset as u32),
+        Step::Reset => name(l, 0, 0),
+        Step::Read(offset) => register(begun(l, 1), offset as u32),
         Step::Write(offset, w) => write(l, offset as u32, w, full),
-        Step::Idle => name(l, 137, 0),
-        Step::BitTimes(n) => decimal(begun(l, 138), n as u64),
-        Step::Activity => name(l, 139, 0),
-        Step::Start => name(l, 140, 0),
-        Step::Outcome(result) => outcome(begun(l, 141), result),
+        Step::Idle => name(l, 3, 0),
+        Step::BitTimes(n) => decimal(begun(l, 4), n as u64),
+        Step::Activity => name(l, 5, 0),
+        Step::Start => name(l, 6, 0),
+        Step::Outcome(result) => outcome(begun(l, 7), result),
         Step::Receive(x) => frames::frame(l, x),
         Step::ReceiveError(code, by) => error(l, code, by),
     }

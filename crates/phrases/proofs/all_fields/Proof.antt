@@ -7,10 +7,10 @@ use Rattle.phrases.proofs.all_fields.Statement.{statement}
 use Rattle.phrases.proofs.all_fields.Tie as tie
 
 abbrev Inv-loop : tie.InvT-loop
-Inv-loop register w t₀ row₀ t row = withFields t (fieldsOn register row (134 - row)) w ≡ withFields t₀ (fieldsOf register) w
+Inv-loop register w t₀ row₀ t row = withFields t (fieldsOn register row (163 - row)) w ≡ withFields t₀ (fieldsOf register) w
 
 abbrev μ-loop : tie.MeasureT-loop
-μ-loop register w t₀ row₀ t row = 134 - row
+μ-loop register w t₀ row₀ t row = 163 - row
 
 loop-holds : tie.Need-loop-holds Inv-loop μ-loop
 unfolding fieldsOf
