@@ -3,7 +3,12 @@ ghost use mathlib.Core.Path.{_≡_};
 ghost use Rattle.names.specs.Listing as listing;
 use super::scan::byte_at;
 
-const TABLE: [u8; 4727] = *b"\
+// Byte i of the rows, one behind the other; behind the last a blank.
+pub(crate) fn at(i: usize) -> u8
+    ensures { λ r. ⌜ r ≡ listing.tableByte i ⌝ }
+{
+    byte_at(
+        b"\
     step    reset   001 01 01 0 0\
     step    read    002 01 01 0 0\
     step    write   003 01 01 0 0\
@@ -167,11 +172,7 @@ const TABLE: [u8; 4727] = *b"\
     FS1R    FSC%    000 01 14 0 0\
     FFA1R   FFA%    000 01 14 0 0\
     FA1R    FACT%   000 01 14 0 0\
-";
-
-// Byte i of the rows, one behind the other; behind the last a blank.
-pub(crate) fn at(i: usize) -> u8
-    ensures { λ r. ⌜ r ≡ listing.tableByte i ⌝ }
-{
-    byte_at(&TABLE, i)
+",
+        i,
+    )
 }
