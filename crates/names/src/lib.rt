@@ -23,9 +23,13 @@ pub enum Group {
 
 // Where the first row of a group begins, with the group's name.
 const STEPS: usize = 0;
+
 const RESULTS: usize = 14 * ROW;
+
 const LINES: usize = 22 * ROW;
+
 const EXPECTATIONS: usize = 27 * ROW;
+
 const REGISTERS: usize = 29 * ROW;
 
 // The place of the cell that has the name of a group.

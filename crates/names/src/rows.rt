@@ -17,6 +17,7 @@ pub(crate) const ROW: usize = 29;
 
 // The registers are the rows from one up to another; their place is a hex number.
 const REGISTERS: usize = 29;
+
 const FIELDS: usize = 52;
 
 // A row, with the number that stands in a name for the percent sign; row NONE where there is none.

@@ -56,6 +56,7 @@ in-row (r ∷ l) f i = go (ltb i 29) refl (in-row l (and-r (eqb (length (bytes r
   where
     long : length (bytes r) ≡ 29
     long = eqb-true (length (bytes r)) 29 (and-l (eqb (length (bytes r)) 29) (isFull l) f)
+
     go : (b : Bool) → ltb i 29 ≡ b → getD (spelled l) (i - 29) 32 ≡ inRow l (i - 29) → getD (bytes r ++ spelled l) i 32 ≡ inRow (r ∷ l) i
     go true t k = first r l i long (ltb-true i 29 t)
     go false t k = further r l i long (ltb-false i 29 t) k
