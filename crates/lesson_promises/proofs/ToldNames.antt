@@ -8,7 +8,7 @@ use Rattle.lesson_promises.specs.Told.{lookedUp, allOf, isLayout, FieldN
 
 -- what a lookup unfolds to
 unfoldable pub lookups : Unit {0}
-unfolding byteAt digitOf isOf runOn runEnd wordAt withDigit valueOn value letterOf letter bytes rows tableByte rowed.cellLetter rowed.sameOn rowed.same rowed.alikeOn rowed.belongs rowed.digitsOn rowed.numberIn rowed.number rowed.isNamed rowed.findOn rowed.find rowed.hasIndex rowed.indexed rowed.alone rowed.named rowed.indexAt rowed.isAt rowed.registerOn rowed.registerAt tables.groupAt tables.named tables.registerAt tables.belongs tables.number tables.place lookedUp allOf
+unfolding byteAt digitOf isOf runOn runEnd wordAt withDigit valueOn value letterOf letter bytes rows tableByte rowed.cellLetter rowed.sameOn rowed.same rowed.alikeOn rowed.belongs rowed.digitsOn rowed.numberIn rowed.number rowed.isNamed rowed.findOn rowed.find rowed.hasIndex rowed.indexed rowed.alone rowed.named rowed.indexAt rowed.registerOn rowed.registerAt tables.groupAt tables.named tables.registerAt tables.belongs tables.number tables.place lookedUp allOf
 lookups = tt
 
 pub field-names : FieldNames

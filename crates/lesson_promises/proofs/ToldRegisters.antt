@@ -16,7 +16,7 @@ use Rattle.model.specs.declared.Register.the-variants.{Absent}
 use Rattle.model.proofs.Choices.{Is, and-l, and-r, pick-cases}
 use Rattle.model.proofs.Bounded.{allBelow, each-below}
 use Rattle.names.specs.Rows as rows
-use Rattle.names.specs.Rows.{nowhere, indexIn, indexAt, isAt, registerOn}
+use Rattle.names.specs.Rows.{nowhere, indexIn, indexAt, registerOn}
 use Rattle.names.specs.Table.{place, registerAt}
 use Rattle.lesson_promises.specs.Told.{lookedUp, registerName, RegisterNames}
 use Rattle.names.specs.declared.rows.Found.{Found}
@@ -79,7 +79,7 @@ along o k (suc n) =
     (along o (k + 1) n)
 
 walked : (o k n : ℕ) → k + n ≤ 23 → registerOn o (k + 29) n ≡ along o k n
-unfolding registerOn isAt indexAt along
+unfolding registerOn indexAt along
 walked o k zero h = refl
 walked o k (suc n) h =
     let e : k + 29 + 1 ≡ k + 1 + 29 = omega arith in
