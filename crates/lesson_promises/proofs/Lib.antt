@@ -4,3 +4,4 @@ pub mod ToldBits
 pub mod ToldRegisters
 pub mod Read
 pub mod Telling
+pub mod Apart

@@ -2,10 +2,13 @@
 -- broken rules count from 0.
 use mathlib.Core.Bool.{true, false}
 use mathlib.Core.Path.{_≡_}
+use Rattle.model.specs.declared.Answer.{Answer}
 use Rattle.model.specs.declared.WideStep.the-variants.{Reset, Read, Write, Idle, BitTimes, Activity, Start, Outcome, Receive, ReceiveError}
 use Rattle.names.specs.Table.{bytes}
-use Rattle.lines.specs.Meanings.{bad}
+use Rattle.lines.specs.Meanings.{meaningNumbers, bad, holds}
 use Rattle.lines.specs.Lines.{meaningOf}
+use Rattle.lines.specs.declared.Expected.{Expected}
+use Rattle.lines.specs.declared.Meaning.{Meaning}
 use Rattle.lines.specs.declared.Meaning.the-variants.{Nothing, Step, Bytes, Expect, Repeat, Done}
 
 pub record Lines : Type 0 where
@@ -89,3 +92,17 @@ pub record Lines : Type 0 where
   pub lineName : meaningOf (bytes "expect lines tx") ≡ bad 13 17 0
   pub refusalRange : meaningOf (bytes "expect refused 0") ≡ bad 15 18 0
   pub behindWord : meaningOf (bytes "expect 1 2") ≡ bad 9 19 0
+
+-- two meanings with the same numbers are the same
+pub record Apart : Type 0 where
+  pub meanings : (x y : Meaning) → meaningNumbers x ≡ meaningNumbers y → x ≡ y
+
+-- an expectation holds exactly where what it gives is so: code and word, the interrupt lines
+pub record Holds (x : Expected) (a : Answer) : Type 0 where
+  pub code : holds x a ≡ true → x .answered ≡ true → x .code ≡ a .code
+  pub word : holds x a ≡ true → x .answered ≡ true → x .word ≡ a .word
+  pub lines : holds x a ≡ true → x .lined ≡ true → x .lines ≡ a .lines
+  pub answer : x .lined ≡ false → x .code ≡ a .code → x .word ≡ a .word → holds x a ≡ true
+  pub linesAlone : x .answered ≡ false → x .lines ≡ a .lines → holds x a ≡ true
+  pub both : x .code ≡ a .code → x .word ≡ a .word → x .lines ≡ a .lines → holds x a ≡ true
+  pub nothing : x .answered ≡ false → x .lined ≡ false → holds x a ≡ true
