@@ -1,6 +1,6 @@
 -- Words, letters and numbers in a row of bytes: docs/LESSONS.md, "Lines and words". A place past the end holds a blank; places are
 -- numbers of 64 bits.
-use mathlib.Core.Bool.{Bool, true, false, not, _&&_, _||_}
+use mathlib.Core.Bool.{Bool, not, _&&_, _||_}
 use mathlib.Core.List.{List}
 use Prim.Native.Nat.{ℕ, zero, suc, _+_, _-_, _*_, _%_, _^_, min}
 use lib.Dec.{eqb, ltb, leb}

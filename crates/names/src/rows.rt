@@ -36,7 +36,7 @@ pub enum Column {
 
 // ---- a row
 
-pub(crate) fn start(row: usize) -> usize
+fn start(row: usize) -> usize
     ensures { λ r. ⌜ (r ≡ rows.start row) × (r ≤ 4727) ⌝ }
 {
     bits::least(row, NONE) * ROW

@@ -1,6 +1,6 @@
 -- The constant is the rows one behind the other, computed; byte i of them is byte i % 29 of row i / 29, as each row has 29 bytes.
 use mathlib.Core.Bool.{Bool, true, false, _&&_}
-use mathlib.Core.Path.{_≡_, refl, sym, ap, _∙_}
+use mathlib.Core.Path.{_≡_, refl, ap, _∙_}
 use mathlib.Core.List.{List, [], _∷_, _++_}
 use Prim.Native.Nat.{ℕ, suc, _+_, _-_, _/_, _%_, _<_, _≤_}
 use Prim.Native.String.{String}
