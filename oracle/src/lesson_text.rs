@@ -176,3 +176,20 @@ fn rounds(count: u32) -> u64 {
         () => count,
     }
 }
+
+/// The bytes of a text, or the line and the column of its fault.
+#[cfg(any(test, wrong))]
+pub type Script = Result<Vec<u8>, (u64, usize)>;
+
+#[cfg(any(test, wrong))]
+pub fn script_of(text: &[u8]) -> Script {
+    let parts = read(text).map_err(|fault| (fault.line, fault.column))?;
+    let mut script = Vec::new();
+    each(&parts, &mut |part| {
+        if let Part::Bytes(bytes) = part {
+            script.extend_from_slice(bytes);
+        }
+        true
+    });
+    Ok(script)
+}

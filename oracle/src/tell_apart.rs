@@ -11,7 +11,7 @@ use crate::encode::{self, ANSWER_LENGTH, REQUEST_LENGTH};
 use crate::generate::{generate, Kind, KINDS};
 use crate::lesson::{self, CODE_OPENING};
 use crate::lesson_lines::lesson_lines;
-use crate::lesson_text::{self, each, Part};
+use crate::lesson_text::{script_of, Script};
 use crate::malformed::broken_script;
 use crate::openings::openings;
 use crate::probe::{switch_to, MISTAKES};
@@ -185,21 +185,6 @@ fn lesson_replies(lesson: &[u8]) -> Vec<[u8; REPLY_LENGTH]> {
         }
         place = progress.place;
     }
-}
-
-/// The bytes of a text, or the line and the column of its fault.
-type Script = Result<Vec<u8>, (u64, usize)>;
-
-fn script_of(text: &[u8]) -> Script {
-    let parts = lesson_text::read(text).map_err(|fault| (fault.line, fault.column))?;
-    let mut script = Vec::new();
-    each(&parts, &mut |part| {
-        if let Part::Bytes(bytes) = part {
-            script.extend_from_slice(bytes);
-        }
-        true
-    });
-    Ok(script)
 }
 
 /// Each line as a text of its own.

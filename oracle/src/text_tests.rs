@@ -6,25 +6,12 @@ use crate::expects;
 use crate::fields::{field_named, fields, offset_named, registers};
 use crate::generate::{generate, KINDS};
 use crate::lesson_lines::{lesson_lines, systematic_lines};
-use crate::lesson_text::{self, each, Part};
+use crate::lesson_text::{self, script_of as script};
 use crate::malformed::broken_script;
 use crate::registers::{btr, esr, fmr, identifier, ier, length_time, mcr, msr, rfr, tsr, Register};
 use crate::script::{decode, Step};
 use crate::text_reader::{read_line, Line};
 use crate::text_writer;
-
-/// The bytes of a text, or the line and the column of its fault.
-fn script(text: &[u8]) -> Result<Vec<u8>, (u64, usize)> {
-    let parts = lesson_text::read(text).map_err(|fault| (fault.line, fault.column))?;
-    let mut script = Vec::new();
-    each(&parts, &mut |part| {
-        if let Part::Bytes(bytes) = part {
-            script.extend_from_slice(bytes);
-        }
-        true
-    });
-    Ok(script)
-}
 
 /// The bytes of a good text.
 fn bytes(text: &str) -> Vec<u8> {

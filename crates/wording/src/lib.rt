@@ -40,7 +40,9 @@ fn done(l: Line, e: Step, word: u32) -> Line {
 }
 
 // The code and the reason, with the number of its mailbox or bank.
-pub fn refused(l: Line, code: u8, reason: u32, index: u32) -> Line {
+pub fn refused(l: Line, code: u8, reason: u32, index: u32) -> Line
+    ensures { λ r. ⌜ lines.Extends l r ⌝ }
+{
     let a = said(l, b"refused %: ", 0, code as u64);
     said(
         a,
@@ -51,7 +53,9 @@ pub fn refused(l: Line, code: u8, reason: u32, index: u32) -> Line {
 }
 
 // The interrupt lines that are up, each with a blank in front, or else what is said of none.
-pub fn lines_up(l: Line, up: u8, none: &[u8]) -> Line {
+pub fn lines_up(l: Line, up: u8, none: &[u8]) -> Line
+    ensures { λ r. ⌜ lines.Extends l r ⌝ }
+{
     if up == 0 {
         return put(l, none);
     }
@@ -86,7 +90,9 @@ pub fn line(n: u64, e: Step, a: Account) -> Line
 }
 
 // What is wrong with a record that can't be read.
-pub fn fault(l: Line, f: Fault) -> Line {
+pub fn fault(l: Line, f: Fault) -> Line
+    ensures { λ r. ⌜ lines.Extends l r ⌝ }
+{
     let a = said(l, b"refused %: ", 0, f.code as u64);
     let b = said(
         a,
@@ -122,7 +128,9 @@ pub fn complaint(program: &[u8], n: u64, place: u64, f: Fault) -> Line
 
 // ---- a lesson that doesn't open with a reset
 
-pub fn unopened(l: Line) -> Line {
+pub fn unopened(l: Line) -> Line
+    ensures { λ r. ⌜ lines.Extends l r ⌝ }
+{
     put(l, b"refused 11: a lesson opens with a reset")
 }
 
