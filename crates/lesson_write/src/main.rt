@@ -1,94 +1,58 @@
 // A lesson as text on standard input, the bytes of its script on standard output, both of any length. At a fault a line on standard
 // error says where it is, what was found there and what is allowed; then nothing more is read. With --check nothing is written and no
-// repeat is run; with --expects items are written, for the program trace: bytes of the script, and what its steps must answer.
+// repeat is run twice; with --expects items are written, for the program trace: bytes of the script, and what its steps must answer.
 use bits::least;
-use items::EXPECTATION;
-use items::SCRIPT;
 use libc::STDOUT_FILENO;
+use lines::Expected;
 use lines::Meaning;
-use repeats::Turns;
-use stream::Input;
+use names::scan::value;
+use names::scan::word_at;
 
-mod items; // what a line gives, as bytes
-mod repeats; // the repeats that are open while lines are run
 mod say; // what is said on standard error
 
 const LONGEST_LINE: usize = 1000;
 
 const DEEPEST: usize = 8;
 
-// The bytes that the lines of an outermost repeat take, with their line ends.
+// The bytes that the lines of an outermost repeat take, with their line ends. They stay in the space that the text is read to.
 const LONGEST_REPEAT: usize = 60000;
 
-// Room for the items of so many bytes of lines. A line of nine bytes, `expect 0`, gives an item of 19, and no line gives more.
-const ROOM: usize = 131072;
-
-// Past this the bytes go out, so that there is always room for an item.
+// Past this the bytes go out, so that there is always room for those of a line.
 const ENOUGH: usize = 64000;
 
-// ---- how far it is
+// An item has a tag, the length of its body in two bytes, and the body; numbers have their low byte first.
+const HEAD: usize = 3;
 
-// What is asked for: nothing is written; items are written.
-struct Asked {
-    checks: bool,
-    expects: bool,
-}
+const SCRIPT: u64 = 1;
 
-// How far the text is read: the lines before the next one, the open repeats with the line and the column of the outermost, the bytes
-// that its lines take. How far the output is: the bytes that wait to go out; of an outermost repeat that is run its items, the place
-// of the next one, the turns that are left.
+const EXPECTATION: u64 = 2;
+
+// The next line is at `place` of the space, which is filled up to another and is needed from `base` on: there the lines of the
+// outermost open repeat begin. `lines` have been read before. Of each open repeat: where its lines begin, behind the base; the
+// number of its own line; the turns that are left, this one with them. A repeat of no turns is silent, with all that is in it.
+// So many bytes wait to go out, each line's behind a head of so many.
 struct Progress {
-    asked: Asked,
-    input: Input,
+    place: usize,
+    filled: usize,
+    ended: bool,
     lines: u64,
     open: usize,
-    outermost: u64,
-    text: usize,
+    base: usize,
+    starts: [usize; DEEPEST],
+    numbers: [u64; DEEPEST],
+    left: [u32; DEEPEST],
+    silent: usize,
     waiting: usize,
-    held: usize,
-    place: usize,
-    running: bool,
-    turns: Turns,
+    head: usize,
+    checks: bool,
     going: bool,
-}
-
-fn begun(asked: Asked, going: bool) -> Progress {
-    Progress {
-        asked: asked,
-        input: stream::nothing_read(),
-        lines: 0,
-        open: 0,
-        outermost: 0,
-        text: 0,
-        waiting: 0,
-        held: 0,
-        place: 0,
-        running: false,
-        turns: repeats::none(),
-        going: going,
-    }
-}
-
-fn stopped(p: Progress) -> Progress {
-    let mut q = p;
-    q.going = false;
-    q
-}
-
-// The number of the line that is looked at.
-fn number(p: Progress) -> u64 {
-    std::num::wrapping_add_u64(p.lines, 1)
 }
 
 // ---- input and output
 
-fn sent(out: &[u8], n: usize) -> bool {
-    let k = least(n, out.len());
-    io::write_all(STDOUT_FILENO, &out[0..k])
-}
-
 fn flushed(p: Progress, out: &[u8]) -> Progress {
-    let ok = sent(out, p.waiting);
+    let n = least(p.waiting, out.len());
+    let ok = io::write_all(STDOUT_FILENO, &out[0..n]);
     if !ok {
         say::say(b"lesson_write: standard output can't be written, the rest is lost\n");
     }
@@ -102,157 +66,190 @@ fn read_on(p: Progress, space: &mut [u8]) -> Progress {
     if !p.going {
         return p;
     }
-    let i = stream::read_on(p.input, space);
-    let mut q = p;
-    q.input = i;
-    if i.failed {
+    let f = stream::refilled(space, p.base, p.filled);
+    if f.failed {
         say::say(b"lesson_write: standard input can't be read\n");
-        return stopped(q);
     }
+    let mut q = p;
+    q.place = std::num::wrapping_sub_usize(p.place, p.base);
+    q.base = 0;
+    q.filled = f.length;
+    q.ended = f.ended;
+    q.going = !f.failed;
     q
 }
 
-// Whether an item is written at all, and whether with its head.
-fn is_written(a: Asked, tag: u8) -> bool {
-    !a.checks & ((tag == SCRIPT) | ((tag == EXPECTATION) & a.expects))
+fn set(space: &mut [u8], i: usize, b: u8) {
+    if i < space.len() {
+        space[i] = b;
+    }
 }
 
-// An item goes behind the bytes that wait.
-fn put_out(p: Progress, item: &[u8], out: &mut [u8]) -> Progress {
-    let a = p.asked;
-    if !is_written(a, items::tag(item)) {
+// A number in so many bytes from a place on.
+fn put(space: &mut [u8], at: usize, n: u64, count: usize) {
+    let mut rest = n;
+    for k in 0..count {
+        set(
+            space,
+            std::num::wrapping_add_usize(at, k),
+            (rest % 256) as u8,
+        );
+        rest = rest / 256;
+    }
+}
+
+// ---- what a line gives
+
+// The pairs of digits from a place of a line on, up to its comment, as bytes, and how many they are. What stands between them is
+// set too, and counted over.
+fn unhexed(line: &[u8], from: usize, space: &mut [u8]) -> usize {
+    let mut n: usize = 0;
+    let mut first = false;
+    for i in from..line.len() {
+        if line[i] == b'#' {
+            return n;
+        }
+        let pair = value(line, i, std::num::wrapping_add_usize(i, 2), true);
+        first = !first & (pair < 256);
+        set(space, n, (pair % 256) as u8);
+        n = std::num::wrapping_add_usize(n, bits::one(first) as usize);
+    }
+    n
+}
+
+// The bytes of a script that a line is.
+fn script(m: Meaning, line: &[u8], space: &mut [u8]) -> usize {
+    match m {
+        Meaning::Step(e) => {
+            let w = writer::write_record(e, space);
+            w.bytes
+        }
+        Meaning::Bytes(place) => unhexed(line, place, space),
+        _ => 0,
+    }
+}
+
+fn written(p: Progress, m: Meaning, line: &[u8], out: &mut [u8]) -> Progress {
+    if p.checks | (p.silent != 0) {
         return p;
     }
-    let first = least(items::first(a.expects), item.len());
-    let from = least(p.waiting, out.len());
-    let n = items::copied(&item[first..], &mut out[from..]);
+    let from = least(std::num::wrapping_add_usize(p.waiting, p.head), out.len());
+    let n = script(m, line, &mut out[from..]);
+    if n == 0 {
+        return p;
+    }
+    put(out, p.waiting, SCRIPT + 256 * (n as u64 % 65536), p.head);
     let mut q = p;
     q.waiting = std::num::wrapping_add_usize(from, n);
     q
 }
 
-// ---- a line
-
-// Behind a line of so many bytes.
-fn passed(p: Progress, length: usize) -> Progress {
-    let mut q = p;
-    q.input = stream::passed(p.input, std::num::wrapping_add_usize(length, 1));
-    q.lines = std::num::wrapping_add_u64(p.lines, 1);
-    q
-}
-
-// Inside a repeat an item goes to the items that are held, else out.
-fn kept(p: Progress, item: &[u8], held: &mut [u8], out: &mut [u8]) -> Progress {
-    if p.open == 0 {
-        return put_out(p, item, out);
-    }
-    let from = least(p.held, held.len());
-    let n = items::copied(item, &mut held[from..]);
-    let mut q = p;
-    q.held = std::num::wrapping_add_usize(from, n);
-    q
-}
-
-fn opened(p: Progress) -> Progress {
-    let mut q = p;
-    q.open = std::num::wrapping_add_usize(p.open, 1);
-    if p.open == 0 {
-        q.outermost = number(p);
-        q.text = 0;
-        q.held = 0;
-    }
-    q
-}
-
-fn closed(p: Progress) -> Progress {
-    let a = p.asked;
-    let mut q = p;
-    q.open = std::num::wrapping_sub_usize(p.open, 1);
-    if q.open == 0 {
-        q.running = !a.checks;
-        q.place = 0;
-    }
-    q
-}
-
-// What the line is by itself; a fault of the lines together is told, and it stops.
-fn is_allowed(p: Progress, line: &[u8], m: Meaning) -> bool {
-    let n = number(p);
-    match m {
-        Meaning::Bad(f) => {
-            say::fault(n, line, f);
-            false
-        }
-        Meaning::Repeat(_) => {
-            if DEEPEST <= p.open {
-                say::too_deep(n, line);
-                return false;
-            }
-            true
-        }
-        Meaning::Done => {
-            if p.open == 0 {
-                say::no_repeat(n, line);
-                return false;
-            }
-            true
-        }
-        _ => true,
-    }
-}
-
-// The repeats that are open behind the line, with its item, which has so many bytes.
-fn with_item(p: Progress, m: Meaning, item: &[u8], held: &mut [u8], out: &mut [u8]) -> Progress {
-    match m {
-        Meaning::Repeat(_) => kept(opened(p), item, held, out),
-        Meaning::Done => closed(kept(p, item, held, out)),
-        _ => kept(p, item, held, out),
-    }
-}
-
-// Whether the lines of an outermost repeat end or begin here: such a line is not one of them.
-fn is_edge(p: Progress, m: Meaning) -> bool {
-    match m {
-        Meaning::Done => p.open == 1,
-        _ => p.open == 0,
-    }
-}
-
-fn with_text(p: Progress, m: Meaning, length: usize) -> Progress {
-    if is_edge(p, m) {
+// The number of its line in eight bytes; whether code and word are expected, code, word in four bytes, whether lines are, lines.
+fn expected(p: Progress, x: Expected, out: &mut [u8]) -> Progress {
+    if (p.head == 0) | p.checks | (p.silent != 0) {
         return p;
     }
+    let from = std::num::wrapping_add_usize(p.waiting, HEAD);
+    let answer = bits::one(x.answered) as u64 + 256 * (x.code as u64) + 65536 * (x.word as u64);
+    let lines = bits::one(x.lined) as u64 + 256 * (x.lines as u64);
+    put(out, p.waiting, EXPECTATION + 256 * 16, HEAD);
+    put(out, from, p.lines, 8);
+    put(out, std::num::wrapping_add_usize(from, 8), answer, 6);
+    put(out, std::num::wrapping_add_usize(from, 14), lines, 2);
     let mut q = p;
-    q.text = std::num::wrapping_add_usize(std::num::wrapping_add_usize(p.text, length), 1);
+    q.waiting = std::num::wrapping_add_usize(from, 16);
     q
 }
 
-fn with_line(
-    p: Progress,
-    line: &[u8],
-    row: &mut [u8],
-    held: &mut [u8],
-    out: &mut [u8],
-) -> Progress {
-    let m = lines::meaning_of(line);
-    if !is_allowed(p, line, m) {
-        return stopped(p);
+// ---- repeats
+
+fn faulty(p: Progress, line: &[u8], place: usize, rule: u32, n: u64) -> Progress {
+    say::fault(p.lines, line, place, rule, n);
+    let mut q = p;
+    q.going = false;
+    q
+}
+
+fn opened(p: Progress, n: u32, line: &[u8]) -> Progress {
+    let k = p.open;
+    if DEEPEST <= k {
+        let w = word_at(line, 0);
+        return faulty(p, line, w.from, say::TOO_DEEP, 0);
     }
-    let q = with_text(p, m, line.len());
-    if LONGEST_REPEAT < q.text {
-        say::too_much(number(p), line, p.outermost);
-        return stopped(p);
+    let once = p.checks | (p.silent != 0) | (n == 0);
+    let mut q = p;
+    q.open = k + 1;
+    q.starts[k] = std::num::wrapping_sub_usize(p.place, p.base);
+    q.numbers[k] = p.lines;
+    q.left[k] = bits::pick_u32(once, 1, n);
+    if (n == 0) & (p.silent == 0) {
+        q.silent = k + 1;
     }
-    let n = least(items::made(m, line, number(p), row), row.len());
-    passed(with_item(q, m, &row[0..n], held, out), line.len())
+    q
+}
+
+// Back to the first line of the repeat, or on.
+fn closed(p: Progress, line: &[u8]) -> Progress {
+    let k = std::num::wrapping_sub_usize(p.open, 1);
+    if DEEPEST <= k {
+        let w = word_at(line, 0);
+        return faulty(p, line, w.from, say::NO_REPEAT, 0);
+    }
+    let left = p.left[k];
+    let mut q = p;
+    if 1 < left {
+        q.left[k] = left - 1;
+        q.place = std::num::wrapping_add_usize(p.base, p.starts[k]);
+        q.lines = p.numbers[k];
+        return q;
+    }
+    q.open = k;
+    if p.silent == p.open {
+        q.silent = 0;
+    }
+    q
+}
+
+// ---- lines
+
+fn with_meaning(p: Progress, m: Meaning, line: &[u8], out: &mut [u8]) -> Progress {
+    match m {
+        Meaning::Expect(x) => expected(p, x, out),
+        Meaning::Repeat(n) => opened(p, n, line),
+        Meaning::Done => closed(p, line),
+        Meaning::Bad(f) => faulty(p, line, f.place, f.rule, f.number as u64),
+        _ => written(p, m, line, out),
+    }
+}
+
+fn with_line(p: Progress, line: &[u8], out: &mut [u8]) -> Progress {
+    let length = std::num::wrapping_add_usize(line.len(), 1);
+    let mut q = p;
+    q.place = std::num::wrapping_add_usize(p.place, length);
+    q.lines = std::num::wrapping_add_u64(p.lines, 1);
+    if p.open == 0 {
+        q.base = q.place;
+    }
+    let r = with_meaning(q, lines::meaning_of(line), line, out);
+    let held = std::num::wrapping_sub_usize(r.place, r.base);
+    if r.going & (r.open != 0) & (LONGEST_REPEAT < held) {
+        let w = word_at(line, 0);
+        let numbers = r.numbers;
+        return faulty(r, line, w.from, say::TOO_MUCH, numbers[0]);
+    }
+    r
 }
 
 // The text ends.
 fn ended(p: Progress) -> Progress {
+    let mut q = p;
+    q.going = false;
     if p.open != 0 {
-        say::not_done(number(p), p.outermost);
+        let numbers = p.numbers;
+        q.lines = std::num::wrapping_add_u64(p.lines, 1);
+        return faulty(q, b"", 0, say::NOT_DONE, numbers[0]);
     }
-    stopped(p)
+    q
 }
 
 // Up to the line end, or all; no more than the longest line and one byte.
@@ -267,78 +264,35 @@ fn line_length(rest: &[u8]) -> usize {
 }
 
 // The next line is looked at; where it isn't there as a whole more is read, with all bytes sent before that.
-fn next_line(
-    p: Progress,
-    space: &mut [u8],
-    row: &mut [u8],
-    held: &mut [u8],
-    out: &mut [u8],
-) -> Progress {
-    let i = p.input;
-    let filled = least(i.filled, space.len());
-    let place = least(i.place, filled);
+fn round(p: Progress, space: &mut [u8], out: &mut [u8]) -> Progress {
+    if ENOUGH < p.waiting {
+        return flushed(p, out);
+    }
+    let filled = least(p.filled, space.len());
+    let place = least(p.place, filled);
     let rest = &space[place..filled];
-    let n = line_length(rest);
+    let n = least(line_length(rest), rest.len());
     if LONGEST_LINE < n {
-        say::too_long(number(p));
-        return stopped(p);
+        let mut q = p;
+        q.lines = std::num::wrapping_add_u64(p.lines, 1);
+        return faulty(q, rest, LONGEST_LINE, say::TOO_LONG, 0);
     }
-    if (n < rest.len()) | (i.ended & (0 < n)) {
-        let end = least(n, rest.len());
-        return with_line(p, &rest[0..end], row, held, out);
+    if (n < rest.len()) | (p.ended & (0 < n)) {
+        return with_line(p, &rest[0..n], out);
     }
-    if i.ended {
+    if p.ended {
         return ended(p);
     }
     read_on(flushed(p, out), space)
 }
 
-// ---- a repeat is run
-
-// The next item of the repeat.
-fn next_item(p: Progress, held: &[u8], out: &mut [u8]) -> Progress {
-    let from = least(p.place, held.len());
-    let rest = &held[from..];
-    let n = least(items::length(rest), rest.len());
-    let item = &rest[0..n];
-    let end = std::num::wrapping_add_usize(from, n);
-    let r = repeats::after(p.turns, items::tag(item), items::count(item), end);
-    let t = r.turns;
-    let mut q = p;
-    q.turns = t;
-    q.place = r.place;
-    q.running = r.going;
-    if r.skips {
-        return q;
-    }
-    put_out(q, item, out)
-}
-
-// ---- the program
-
-fn round(
-    p: Progress,
-    space: &mut [u8],
-    row: &mut [u8],
-    held: &mut [u8],
-    out: &mut [u8],
-) -> Progress {
-    if ENOUGH < p.waiting {
-        return flushed(p, out);
-    }
-    if p.running {
-        return next_item(p, held, out);
-    }
-    next_line(p, space, row, held, out)
-}
-
 // A loop that is proved has to end, and nothing says that the input does: the turns are counted down from a number that
 // no run uses up.
-fn run(first: Progress, space: &mut [u8], row: &mut [u8], held: &mut [u8], out: &mut [u8]) {
+fn run(first: Progress, space: &mut [u8], out: &mut [u8]) {
     let mut p = first;
     let mut turns = u64::MAX;
     while 0 < turns && p.going {
-        p = round(p, space, row, held, out);
+        p = round(p, space, out);
         turns -= 1;
     }
     flushed(p, out);
@@ -355,19 +309,26 @@ fn arguments() -> Progress {
     if !known {
         say::say(b"usage: lesson_write [--check | --expects]\n");
     }
-    begun(
-        Asked {
-            checks: checks,
-            expects: expects,
-        },
-        known,
-    )
+    Progress {
+        place: 0,
+        filled: 0,
+        ended: false,
+        lines: 0,
+        open: 0,
+        base: 0,
+        starts: [0; DEEPEST],
+        numbers: [0; DEEPEST],
+        left: [0; DEEPEST],
+        silent: 0,
+        waiting: 0,
+        head: HEAD * (bits::one(expects) as usize),
+        checks: checks,
+        going: known,
+    }
 }
 
 fn main() {
     let mut space = io::large_buffer();
     let mut out = io::large_buffer();
-    let mut row = [0; 1024];
-    let mut held = [0; ROOM];
-    run(arguments(), &mut space, &mut row, &mut held, &mut out);
+    run(arguments(), &mut space, &mut out);
 }

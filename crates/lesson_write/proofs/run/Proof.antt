@@ -6,10 +6,10 @@ use Rattle.lesson_write.proofs.run.Statement.{statement}
 use Rattle.lesson_write.proofs.run.Tie as tie
 
 abbrev Inv-loop : tie.InvT-loop
-Inv-loop space₀ row₀ held₀ out₀ p₀ turns₀ space row held out p turns = (length space ≡ length space₀) × ((length row ≡ length row₀) × ((length held ≡ length held₀) × (length out ≡ length out₀)))
+Inv-loop space₀ out₀ p₀ turns₀ space out p turns = (length space ≡ length space₀) × (length out ≡ length out₀)
 
 abbrev μ-loop : tie.MeasureT-loop
-μ-loop space₀ row₀ held₀ out₀ p₀ turns₀ space row held out p turns = turns
+μ-loop space₀ out₀ p₀ turns₀ space out p turns = turns
 
 loop-holds : tie.Need-loop-holds Inv-loop μ-loop
 loop-holds c = search needs
@@ -35,12 +35,6 @@ same-length c = search needs
 same-length-2 : tie.Need-same-length-2 Inv-loop μ-loop
 same-length-2 c = search needs
 
-same-length-3 : tie.Need-same-length-3 Inv-loop μ-loop
-same-length-3 c = search needs
-
-same-length-4 : tie.Need-same-length-4 Inv-loop μ-loop
-same-length-4 c = search needs
-
 returns : tie.Need-returns Inv-loop μ-loop
 returns c = search needs
 
@@ -58,6 +52,4 @@ run-spec =
     flushed-requires
     same-length
     same-length-2
-    same-length-3
-    same-length-4
     returns)

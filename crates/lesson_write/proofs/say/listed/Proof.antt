@@ -1,13 +1,14 @@
+-- It ends: the rows are counted.
 use Prim.Native.Nat.{_-_}
 use borrow.Author.Needs.{needs}
 use Rattle.lesson_write.proofs.say.listed.Statement.{statement}
 use Rattle.lesson_write.proofs.say.listed.Tie as tie
 
 abbrev Inv-loop : tie.InvT-loop
-Inv-loop g first m₀ row₀ t6 m row = Unit {0}
+Inv-loop l g m₀ row₀ t7 t8 m row = Unit {0}
 
 abbrev μ-loop : tie.MeasureT-loop
-μ-loop g first m₀ row₀ t6 m row = 163 - row
+μ-loop l g m₀ row₀ t7 t8 m row = 163 - row
 
 loop-holds : tie.Need-loop-holds Inv-loop μ-loop
 loop-holds c = search needs
@@ -26,6 +27,21 @@ said-requires c κs = search needs
 
 name-requires : tie.Need-name-requires Inv-loop μ-loop
 name-requires c κs = search needs
+
+number-requires : tie.Need-number-requires Inv-loop μ-loop
+number-requires c κs = search needs
+
+slice-aggregate-put : tie.Need-slice-aggregate-put Inv-loop μ-loop
+slice-aggregate-put c = search needs
+
+put-requires : tie.Need-put-requires Inv-loop μ-loop
+put-requires c κs = search needs
+
+sub-name : tie.Need-sub-name Inv-loop μ-loop
+sub-name c = search needs
+
+name-requires-2 : tie.Need-name-requires-2 Inv-loop μ-loop
+name-requires-2 c κs = search needs
 
 add-row : tie.Need-add-row Inv-loop μ-loop
 add-row c = search needs
@@ -51,6 +67,11 @@ listed-spec =
     one-requires
     said-requires
     name-requires
+    number-requires
+    slice-aggregate-put
+    put-requires
+    sub-name
+    name-requires-2
     add-row
     loop-less
     loop-again

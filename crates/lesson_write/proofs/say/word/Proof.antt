@@ -1,13 +1,14 @@
+-- It ends: the letters are counted.
 use Prim.Native.Nat.{_-_}
 use borrow.Author.Needs.{needs}
 use Rattle.lesson_write.proofs.say.word.Statement.{statement}
 use Rattle.lesson_write.proofs.say.word.Tie as tie
 
 abbrev Inv-loop : tie.InvT-loop
-Inv-loop s place n k m₀ i₀ t8 m i = Unit {0}
+Inv-loop s place n k m₀ i₀ t9 m i = Unit {0}
 
 abbrev μ-loop : tie.MeasureT-loop
-μ-loop s place n k m₀ i₀ t8 m i = k - i
+μ-loop s place n k m₀ i₀ t9 m i = k - i
 
 run-end-requires : tie.Need-run-end-requires Inv-loop μ-loop
 run-end-requires c κs = search needs
@@ -30,8 +31,11 @@ wrapping-add-usize-requires c κs = search needs
 byte-at-requires : tie.Need-byte-at-requires Inv-loop μ-loop
 byte-at-requires c κs = search needs
 
-shown-requires : tie.Need-shown-requires Inv-loop μ-loop
-shown-requires c κs = search needs
+pick-u8-requires : tie.Need-pick-u8-requires Inv-loop μ-loop
+pick-u8-requires c κs = search needs
+
+byte-requires-2 : tie.Need-byte-requires-2 Inv-loop μ-loop
+byte-requires-2 c κs = search needs
 
 add-i : tie.Need-add-i Inv-loop μ-loop
 add-i c = search needs
@@ -67,7 +71,8 @@ word-spec =
     loop-holds
     wrapping-add-usize-requires
     byte-at-requires
-    shown-requires
+    pick-u8-requires
+    byte-requires-2
     add-i
     loop-less
     loop-again
