@@ -1,256 +1,139 @@
 // What the steps of a lesson must answer, what came, and what is said where they differ.
-use account::faults::Fault;
+use super::BEHIND;
+use super::NOTHING;
+use super::OPENING;
+use super::Progress;
+use super::UNREAD;
+use super::complain_line;
+use super::fault;
+use super::flushed;
+use super::unsaid_told;
 use lines::Expected;
 use model::Answer;
 use text::Line;
 use text::byte;
 use text::put;
+use text::said;
 
-// Of what the last answer is: of nothing yet, of a step, of a record that can't be read, of another opening than a reset, of
-// something behind the stop of the script.
-const NOTHING: u32 = 0;
-
-const STEP: u32 = 1;
-
-const UNREAD: u32 = 2;
-
-const OPENING: u32 = 3;
-
-const BEHIND: u32 = 4;
-
-// The last answer, and of a refused step the number of the reason and of its mailbox or bank.
-pub(crate) struct Last {
-    pub(crate) of: u32,
-    pub(crate) code: u8,
-    pub(crate) lines: u8,
-    pub(crate) word: u32,
-    pub(crate) reason: u32,
-    pub(crate) index: u32,
-}
-
-// The last answer; what is wrong with a record that can't be read, and whether that is still to be said; what a line expects of a
-// record that isn't whole yet, where it is kept; how many answers were checked, and how many were others.
-pub(crate) struct Checks {
-    pub(crate) last: Last,
-    pub(crate) fault: Fault,
-    pub(crate) unsaid: bool,
-    pub(crate) kept: bool,
-    pub(crate) line: u64,
-    pub(crate) expected: Expected,
-    pub(crate) checked: u64,
-    pub(crate) failed: u64,
-}
-
-fn answer_of(of: u32, code: u8, lines: u8) -> Last {
-    Last {
-        of: of,
-        code: code,
-        lines: lines,
-        word: 0,
-        reason: 0,
-        index: 0,
+// What is expected, as an item has it: whether code and word are expected, code, word in four bytes, whether lines are, lines.
+fn decoded(x: u64) -> Expected {
+    Expected {
+        answered: x % 256 != 0,
+        code: (x / 256 % 256) as u8,
+        word: (x / 65536 % 4294967296) as u32,
+        lined: x / 281474976710656 % 256 != 0,
+        lines: (x / 72057594037927936) as u8,
     }
-}
-
-pub(crate) fn none() -> Checks {
-    Checks {
-        last: answer_of(NOTHING, 0, 0),
-        fault: Fault {
-            code: 0,
-            kind: 0,
-            count: 0,
-            tag: 0,
-            wanted: 0,
-        },
-        unsaid: false,
-        kept: false,
-        line: 0,
-        expected: Expected {
-            answered: false,
-            code: 0,
-            word: 0,
-            lined: false,
-            lines: 0,
-        },
-        checked: 0,
-        failed: 0,
-    }
-}
-
-// ---- answers
-
-pub(crate) fn with_answer(
-    c: Checks,
-    code: u8,
-    lines: u8,
-    word: u32,
-    reason: u32,
-    index: u32,
-) -> Checks {
-    let answer = Last {
-        of: STEP,
-        code: code,
-        lines: lines,
-        word: word,
-        reason: reason,
-        index: index,
-    };
-    let mut d = c;
-    d.last = answer;
-    d
-}
-
-pub(crate) fn with_fault(c: Checks, f: Fault, lines: u8) -> Checks {
-    let mut d = c;
-    d.last = answer_of(UNREAD, f.code, lines);
-    d.fault = f;
-    d.unsaid = true;
-    d
-}
-
-pub(crate) fn with_opening(c: Checks, lines: u8) -> Checks {
-    let mut d = c;
-    d.last = answer_of(OPENING, 11, lines);
-    d
-}
-
-pub(crate) fn behind_stop(c: Checks) -> Checks {
-    let mut d = c;
-    d.last = answer_of(BEHIND, 0, 0);
-    d
-}
-
-// ---- what is expected
-
-pub(crate) fn keep(c: Checks, line: u64, x: Expected) -> Checks {
-    let mut d = c;
-    d.kept = true;
-    d.line = line;
-    d.expected = x;
-    d
-}
-
-pub(crate) fn no_more(c: Checks) -> Checks {
-    let mut d = c;
-    d.kept = false;
-    d
-}
-
-pub(crate) fn said(c: Checks) -> Checks {
-    let mut d = c;
-    d.unsaid = false;
-    d
-}
-
-pub(crate) fn failed(c: Checks) -> Checks {
-    let mut d = c;
-    d.checked = std::num::wrapping_add_u64(c.checked, 1);
-    d.failed = std::num::wrapping_add_u64(c.failed, 1);
-    d
-}
-
-// A code that is expected needs no complaint.
-pub(crate) fn held(c: Checks, x: Expected) -> Checks {
-    let mut d = c;
-    d.checked = std::num::wrapping_add_u64(c.checked, 1);
-    d.unsaid = c.unsaid & !x.answered;
-    d
-}
-
-pub(crate) fn holds(c: Checks, x: Expected) -> bool {
-    let a = c.last;
-    let answer = Answer {
-        code: a.code,
-        lines: a.lines,
-        word: a.word,
-    };
-    (a.of != NOTHING) & (a.of != BEHIND) & lines::holds(x, answer)
 }
 
 // ---- words
 
-fn word(l: Line, w: u32) -> Line {
-    text::hex(put(l, b"the word "), w, 8)
-}
-
-fn with_lines(l: Line, answered: bool, up: u8) -> Line {
-    let a = text::said(l, b"lines|, lines", bits::one(answered), 0);
+fn with_lines(l: Line, x: Expected, up: u8) -> Line {
+    if !x.lined {
+        return l;
+    }
+    let a = said(l, b"lines|, lines", bits::one(x.answered), 0);
     wording::lines_up(a, up, b" none")
 }
 
-fn wanted_answer(l: Line, x: Expected) -> Line {
-    if !x.answered {
-        return l;
-    }
-    if x.code == 0 {
-        return word(l, x.word);
-    }
-    text::said(l, b"refused %", 0, x.code as u64)
+fn with_word(l: Line, w: u32) -> Line {
+    text::hex(put(l, b"the word "), w, 8)
 }
 
 // Which line expects what.
 fn wanted(line: u64, x: Expected) -> Line {
-    let a = put(
-        text::said(text::empty(), b"line %", 0, line),
-        b": expected ",
-    );
-    let b = wanted_answer(a, x);
-    if x.lined {
-        return with_lines(b, x.answered, x.lines);
+    let a = said(text::empty(), b"line %: expected ", 0, line);
+    if !x.answered {
+        return with_lines(a, x, x.lines);
     }
-    b
+    if x.code == 0 {
+        return with_lines(with_word(a, x.word), x, x.lines);
+    }
+    with_lines(said(a, b"refused %", 0, x.code as u64), x, x.lines)
 }
 
-fn came_answer(l: Line, c: Checks) -> Line {
-    let a = c.last;
-    if a.of == UNREAD {
-        return wording::fault(l, c.fault);
+fn answer(l: Line, p: Progress, script: &[u8]) -> Line {
+    if p.of == UNREAD {
+        return wording::fault(l, fault(p, script));
     }
-    if a.of == OPENING {
+    if p.of == OPENING {
         return wording::unopened(l);
     }
-    if a.code == 0 {
-        return word(l, a.word);
+    if p.code == 0 {
+        return with_word(l, p.word);
     }
-    wording::refused(l, a.code, a.reason, a.index)
+    wording::refused(l, p.code, p.reason, p.index)
 }
 
-fn came(l: Line, c: Checks, x: Expected) -> Line {
-    let a = c.last;
-    let b = put(l, b"; came ");
-    if !x.answered {
-        return with_lines(b, false, a.lines);
-    }
-    let d = came_answer(b, c);
-    if x.lined {
-        return with_lines(d, true, a.lines);
-    }
-    d
-}
-
-// What is not as the line expects it; a script that stopped did so at a byte.
-pub(crate) fn complaint(c: Checks, line: u64, x: Expected, place: u64) -> Line {
+// What is not as a line expects it; a script that stopped did so at a byte.
+fn complaint(p: Progress, line: u64, x: Expected, script: &[u8]) -> Line {
     let a = wanted(line, x);
-    let k = c.last;
-    if k.of == NOTHING {
+    if p.of == NOTHING {
         return put(a, b"; there is no step above\n");
     }
-    if k.of == BEHIND {
-        return text::said(a, b"; the script stopped before, at byte %\n", 0, place);
+    if p.of == BEHIND {
+        return said(a, b"; the script stopped before, at byte %\n", 0, p.bytes);
     }
-    byte(came(a, c, x), b'\n')
+    let b = put(a, b"; came ");
+    if x.answered {
+        return byte(with_lines(answer(b, p, script), x, p.lines), b'\n');
+    }
+    byte(with_lines(b, x, p.lines), b'\n')
 }
 
-// A second line about a record that isn't whole yet.
-pub(crate) fn second(line: u64, x: Expected) -> Line {
-    put(
-        wanted(line, x),
-        b"; the record above isn't whole yet, and one line expects its answer already\n",
-    )
+// ---- what is expected
+
+// The text before a complaint goes out first.
+fn failed(p: Progress, l: Line, out: &[u8]) -> Progress {
+    let mut q = flushed(p, out);
+    q.checked = std::num::wrapping_add_u64(p.checked, 1);
+    q.failures = std::num::wrapping_add_u64(p.failures, 1);
+    complain_line(l);
+    q
 }
 
-// How many expectations were checked.
-pub(crate) fn counted(c: Checks) -> Line {
-    let a = text::said(text::empty(), b"% expectations checked, ", 0, c.checked);
-    text::said(a, b"% failed\n", 0, c.failed)
+// A code that is expected needs no complaint of its record.
+fn checked(p: Progress, line: u64, expected: u64, script: &[u8], out: &[u8]) -> Progress {
+    let x = decoded(expected);
+    let came = Answer {
+        code: p.code,
+        lines: p.lines,
+        word: p.word,
+    };
+    if (p.of != NOTHING) & (p.of != BEHIND) & lines::holds(x, came) {
+        let mut q = p;
+        q.checked = std::num::wrapping_add_u64(p.checked, 1);
+        q.unsaid = p.unsaid & !x.answered;
+        return q;
+    }
+    let q = unsaid_told(p, script);
+    failed(q, complaint(q, line, x, script), out)
+}
+
+// What waited for the record is checked.
+pub(crate) fn kept_checked(p: Progress, script: &[u8], out: &[u8]) -> Progress {
+    if p.line == 0 {
+        return p;
+    }
+    let mut q = p;
+    q.line = 0;
+    checked(q, p.line, p.expected, script, out)
+}
+
+// What the line with a number expects of the last answer. Of a record that isn't whole yet it waits for it, once.
+pub(crate) fn expected(p: Progress, line: u64, x: u64, script: &[u8], out: &[u8]) -> Progress {
+    if p.stopped | (p.end <= p.start) {
+        return checked(p, line, x, script, out);
+    }
+    if p.line != 0 {
+        let l = put(
+            wanted(line, decoded(x)),
+            b"; the record above isn't whole yet, and one line expects its answer already\n",
+        );
+        return failed(p, l, out);
+    }
+    let mut q = p;
+    q.line = line;
+    q.expected = x;
+    q
 }

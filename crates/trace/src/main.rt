@@ -4,589 +4,445 @@
 use account::Account;
 use account::faults::Fault;
 use bits::least;
-use checks::Checks;
-use items::Item;
 use libc::STDERR_FILENO;
 use libc::STDOUT_FILENO;
-use lines::Expected;
-use model::Controller;
 use model::Reading;
 use model::Step;
-use stream::Input;
+use names::scan::byte_at;
 use text::Line;
 
 mod checks; // what is expected, and what came
-mod items; // the items of a lesson
 
-// No record has more bytes.
-const LONGEST_RECORD: usize = 16;
+// An item of a lesson, as lesson_write gives it: a tag, the length of the body in two bytes, and the body; numbers have their low
+// byte first. No line of a lesson gives more than 1000 bytes. The body of what a line expects is its number in eight bytes and what
+// it expects in eight.
+const HEAD: usize = 3;
+
+const LONGEST_ITEM: usize = 1003;
+
+const SCRIPT: u8 = 1;
+
+const EXPECTATION: u8 = 2;
+
+const EXPECTATION_LENGTH: usize = 19;
 
 // Past this the text goes out, so that there is always room for a line.
 const ENOUGH_TEXT: usize = 61440;
 
-// ---- input and output
+// Of what the last answer is: of nothing yet, of a step, of a record that can't be read, of another opening than a reset, of
+// something behind the stop of the script.
+const NOTHING: u32 = 0;
 
-// The records so far, how many of them were refused, the bytes that they take, the interrupt lines that are up, the text
-// that waits, whether to go on; the script as far as it is read. Of a lesson also its items, whether the script has stopped, and
-// the answers that are checked.
+const STEP: u32 = 1;
+
+const UNREAD: u32 = 2;
+
+const OPENING: u32 = 3;
+
+const BEHIND: u32 = 4;
+
+// The records so far, how many of them were refused, the bytes that they take; the text that waits, and whether to go on. The input
+// that is not used yet lies from `place` up to `filled` of its space, and so does the script from `start` up to `end` of another;
+// `whole`: nothing follows it. `length` is that of the record whose step is made now, 0 where there is none. The last answer, and of
+// a refused step the number of the reason and of its mailbox or bank; `unsaid`: that a record can't be read is still to be told. What
+// a line expects of a record that isn't whole yet, by the number of the line, 0 where there is none; the expectations that were
+// checked and those that failed.
 struct Progress {
     records: u64,
     refused: u64,
     bytes: u64,
     text: usize,
-    lines: u8,
     going: bool,
-    input: Input,
+    place: usize,
+    filled: usize,
+    ended: bool,
+    failed: bool,
+    start: usize,
+    end: usize,
+    whole: bool,
+    length: usize,
     lesson: bool,
-    items: Input,
     stopped: bool,
-    checks: Checks,
+    of: u32,
+    code: u8,
+    lines: u8,
+    word: u32,
+    reason: u32,
+    index: u32,
+    unsaid: bool,
+    line: u64,
+    expected: u64,
+    checked: u64,
+    failures: u64,
+}
+
+// ---- input and output
+
+// The first n bytes go out; whether that went well.
+fn sent(text: &[u8], n: usize, file: i32) -> bool {
+    let k = least(n, text.len());
+    io::write_all(file, &text[0..k])
 }
 
 fn complain(text: &[u8]) {
     io::write_all(STDERR_FILENO, text);
 }
 
-// The first n bytes.
-fn complain_first(text: &[u8], n: usize) {
-    let k = least(n, text.len());
-    complain(&text[0..k]);
-}
-
-fn complain_if(b: bool, text: &[u8]) {
-    if b {
-        complain(text);
-    }
-}
-
 fn complain_line(l: Line) {
     let bytes = l.bytes;
-    complain_first(&bytes, l.at);
-}
-
-// The first bytes of a row go out.
-fn sent(out: &[u8], text: usize) -> bool {
-    let n = least(text, out.len());
-    io::write_all(STDOUT_FILENO, &out[0..n])
-}
-
-// ---- a turn of the loop
-
-// What a turn of the loop finds: nothing yet, the end of the script, a record that can't be read, or a step and the
-// length of its record. Of a lesson also: another opening than a reset, what the line with a number expects, the end of the items.
-enum Turn {
-    Waits,
-    Ends,
-    Stops(Fault),
-    Steps(Step, usize),
-    Unopened,
-    Expects(u64, Expected),
-    Over,
-}
-
-struct Turned {
-    progress: Progress,
-    turn: Turn,
+    sent(&bytes, l.at, STDERR_FILENO);
 }
 
 fn flushed(p: Progress, out: &[u8]) -> Progress {
-    let ok = sent(out, p.text);
-    complain_if(
-        !ok,
-        b"trace: standard output can't be written, the rest is lost\n",
-    );
+    let ok = sent(out, p.text, STDOUT_FILENO);
+    if !ok {
+        complain(b"trace: standard output can't be written, the rest is lost\n");
+    }
     let mut q = p;
     q.text = 0;
     q.going = p.going & ok;
     q
 }
 
-fn next_turn(rest: &[u8]) -> Turn {
-    let x = records::reading(rest, 0);
-    match x {
-        Reading::End => Turn::Ends,
-        Reading::Malformed(k) => Turn::Stops(account::faults::fault_in(k, rest)),
-        Reading::Found(e, q) => Turn::Steps(e, q),
-    }
-}
-
-// What is not used yet goes to the start of the input, and more is read behind it.
-fn read_on(p: Progress, input: &mut [u8]) -> Progress {
-    let i = stream::read_on(p.input, input);
-    complain_if(i.failed, b"trace: standard input can't be read\n");
-    let mut q = p;
-    q.input = i;
-    q
-}
-
-// More is read, or the next record is looked at.
-fn script_turn(p: Progress, input: &mut [u8], out: &[u8]) -> Turned {
-    let i = p.input;
-    if stream::wants(i, LONGEST_RECORD) {
-        return Turned {
-            progress: read_more(p, input, out),
-            turn: Turn::Waits,
-        };
-    }
-    let filled = least(i.filled, input.len());
-    let place = least(i.place, filled);
-    Turned {
-        progress: p,
-        turn: next_turn(&input[place..filled]),
-    }
-}
-
-// All text goes out before more is read.
-fn read_more(p: Progress, input: &mut [u8], out: &[u8]) -> Progress {
-    if 0 < p.text {
-        return flushed(p, out);
-    }
-    if p.lesson {
-        return read_items(p, input);
-    }
-    read_on(p, input)
-}
-
-// ---- a turn of a lesson
-
-fn read_items(p: Progress, space: &mut [u8]) -> Progress {
-    let i = stream::read_on(p.items, space);
-    complain_if(i.failed, b"trace: standard input can't be read\n");
-    let mut q = p;
-    q.items = i;
-    q
-}
-
-fn is_reset(t: Turn) -> bool {
-    match t {
-        Turn::Steps(e, _) => match e {
-            Step::Reset => true,
-            _ => false,
-        },
-        _ => false,
-    }
-}
-
-// Whether a record is there as a whole, or can't be read with whatever follows.
-fn is_whole(t: Turn) -> bool {
-    match t {
-        Turn::Stops(f) => f.code != 6,
-        Turn::Steps(_, _) => true,
-        _ => false,
-    }
-}
-
-// The first record of a lesson is a reset; another opening is told.
-fn opened(p: Progress, t: Turn, rest: &[u8]) -> Turn {
-    if (0 < p.records) | is_reset(t) {
-        return t;
-    }
-    complain_line(wording::unopened_complaint(b"trace", rest));
-    Turn::Unopened
-}
-
-// The bytes of the script that are not used yet.
-fn record_turn(p: Progress, script: &[u8]) -> Turn {
-    let i = p.input;
-    let filled = least(i.filled, script.len());
-    let place = least(i.place, filled);
-    let rest = &script[place..filled];
-    let t = next_turn(rest);
-    if is_whole(t) | i.ended {
-        return opened(p, t, rest);
-    }
-    Turn::Waits
-}
-
-// The items end: so does the script, and behind its end the lesson.
-fn items_ended(p: Progress, script: &[u8]) -> Turned {
-    if p.stopped {
-        return Turned {
-            progress: p,
-            turn: Turn::Over,
-        };
-    }
-    let i = p.input;
-    let from = p.items;
-    let last = Input {
-        place: i.place,
-        filled: i.filled,
-        ended: true,
-        failed: from.failed,
-    };
-    let mut q = p;
-    q.input = last;
-    Turned {
-        progress: q,
-        turn: record_turn(q, script),
-    }
-}
-
-// Items of another kind; where reading failed they may just break off.
-fn items_broken(p: Progress) -> Turned {
-    let i = p.items;
-    complain_if(
-        !i.failed,
-        b"trace: standard input has no items of a lesson\n",
-    );
-    let mut q = p;
-    q.going = false;
-    Turned {
-        progress: q,
-        turn: Turn::Waits,
-    }
-}
-
-// Bytes of the script go behind those that are not used yet; behind its stop they say nothing.
-fn with_bytes(p: Progress, item: &[u8], script: &mut [u8]) -> Progress {
-    let mut q = p;
-    q.items = stream::passed(p.items, item.len());
-    if p.stopped {
-        q.checks = checks::behind_stop(unsaid_told(p));
-        return q;
-    }
-    let i = p.input;
-    let k = stream::to_front(script, i.place, i.filled);
-    let from = least(k, script.len());
-    let n = items::body_copied(item, &mut script[from..]);
-    let next = Input {
-        place: 0,
-        filled: std::num::wrapping_add_usize(from, n),
-        ended: false,
-        failed: false,
-    };
-    q.input = next;
-    q
-}
-
-// The next item.
-fn item_turn(p: Progress, space: &mut [u8], script: &mut [u8], out: &[u8]) -> Turned {
-    let i = p.items;
-    let filled = least(i.filled, space.len());
-    let place = least(i.place, filled);
-    let rest = &space[place..filled];
-    let x = items::next(rest, i.ended);
-    match x {
-        Item::Wanting => Turned {
-            progress: read_more(p, space, out),
-            turn: Turn::Waits,
-        },
-        Item::Ended => items_ended(p, script),
-        Item::Broken => items_broken(p),
-        Item::Bytes(n) => {
-            let end = least(n, rest.len());
-            Turned {
-                progress: with_bytes(p, &rest[0..end], script),
-                turn: Turn::Waits,
-            }
-        }
-        Item::Expectation(line, e) => {
-            let mut q = p;
-            q.items = stream::passed(i, items::EXPECTATION_LENGTH);
-            Turned {
-                progress: q,
-                turn: Turn::Expects(line, e),
-            }
-        }
-    }
-}
-
-// A record, or else an item.
-fn lesson_turn(p: Progress, space: &mut [u8], script: &mut [u8], out: &[u8]) -> Turned {
-    if p.stopped {
-        return item_turn(p, space, script, out);
-    }
-    let t = record_turn(p, script);
-    match t {
-        Turn::Waits => item_turn(p, space, script, out),
-        _ => Turned {
-            progress: p,
-            turn: t,
-        },
-    }
-}
-
-// The text goes out, or a turn of a script or of a lesson is made.
-fn turn_of(p: Progress, space: &mut [u8], script: &mut [u8], out: &[u8]) -> Turned {
-    if ENOUGH_TEXT < p.text {
-        return Turned {
-            progress: flushed(p, out),
-            turn: Turn::Waits,
-        };
-    }
-    if p.lesson {
-        return lesson_turn(p, space, script, out);
-    }
-    script_turn(p, space, out)
-}
-
-// ---- the text of a turn
-
-// How far the trace is after a turn, and the text of the turn, which is not counted yet.
-struct Report {
-    progress: Progress,
-    line: Line,
-}
-
-fn traced(p: Progress, q: usize, a: Account) -> Progress {
-    let g = a.place;
-    let c = checks::with_answer(p.checks, a.code, a.lines, a.word, a.reason, g.index);
-    let mut r = p;
-    r.records = std::num::wrapping_add_u64(p.records, 1);
-    r.refused = std::num::wrapping_add_u64(p.refused, bits::one(a.code != 0) as u64);
-    r.bytes = std::num::wrapping_add_u64(p.bytes, q as u64);
-    r.lines = a.lines;
-    r.input = stream::passed(p.input, q);
-    r.checks = c;
-    r
-}
-
-// The last line, behind a line that is begun. A lesson is read on for what it expects.
-fn stop(p: Progress, l: Line, why: u32) -> Report {
-    let mut q = p;
-    q.going = p.lesson;
-    q.stopped = true;
-    Report {
-        progress: q,
-        line: wording::last(l, why, p.bytes, p.records, p.refused),
-    }
-}
-
-fn complain_of(p: Progress, f: Fault) {
-    let n = std::num::wrapping_add_u64(p.records, 1);
-    complain_line(wording::complaint(b"trace", n, p.bytes, f));
-}
-
-// A record that can't be read; where reading failed the script may just break off inside it. In a lesson it may be expected.
-fn unread(p: Progress, failed: bool, f: Fault) -> Report {
-    if failed & (f.code == 6) {
-        return stop(p, text::empty(), 2);
-    }
-    let n = std::num::wrapping_add_u64(p.records, 1);
-    let mut q = p;
-    q.checks = checks::with_fault(p.checks, f, p.lines);
-    if !p.lesson {
-        complain_of(p, f);
-    }
-    stop(q, wording::unread_line(n, p.bytes, f, p.lines), 0)
-}
-
-fn unopened(p: Progress) -> Report {
-    let mut q = p;
-    q.checks = checks::with_opening(p.checks, p.lines);
-    stop(q, wording::unopened_line(p.lines), 0)
-}
-
-fn over(p: Progress) -> Report {
-    let mut q = p;
-    q.going = false;
-    Report {
-        progress: q,
-        line: checks::counted(p.checks),
-    }
-}
-
-// a is of the step of the turn.
-fn told(p: Progress, t: Turn, a: Account) -> Report {
-    let i = p.input;
-    match t {
-        Turn::Waits => Report {
-            progress: p,
-            line: text::empty(),
-        },
-        Turn::Ends => stop(p, text::empty(), bits::pick_u32(i.failed, 2, 1)),
-        Turn::Stops(f) => unread(p, i.failed, f),
-        Turn::Steps(e, k) => {
-            let q = traced(p, k, a);
-            Report {
-                progress: q,
-                line: wording::line(q.records, e, a),
-            }
-        }
-        Turn::Unopened => unopened(p),
-        Turn::Expects(_, _) => Report {
-            progress: p,
-            line: text::empty(),
-        },
-        Turn::Over => over(p),
-    }
-}
-
-// The text goes behind the text that waits.
-fn stored(t: Report, out: &mut [u8]) -> Progress {
-    let p = t.progress;
-    let l = t.line;
+// A line goes behind the text that waits.
+fn stored(p: Progress, l: Line, out: &mut [u8]) -> Progress {
     let from = least(p.text, out.len());
     let mut q = p;
     q.text = std::num::wrapping_add_usize(from, text::copied(l, &mut out[from..]));
     q
 }
 
-// ---- what is expected
-
-// A record that can't be read is told once it is known that no line expects it.
-fn unsaid_told(p: Progress) -> Checks {
-    let c = p.checks;
-    if c.unsaid {
-        complain_of(p, c.fault);
-    }
-    checks::said(c)
-}
-
-// What a line expects of the last answer. The text before it goes out first.
-fn checked(p: Progress, line: u64, x: Expected, out: &[u8]) -> Progress {
-    let c = p.checks;
-    let mut q = p;
-    if checks::holds(c, x) {
-        q.checks = checks::held(c, x);
+// All text goes out before more is read.
+fn read_on(p: Progress, space: &mut [u8], out: &[u8]) -> Progress {
+    let mut q = flushed(p, out);
+    if !q.going {
         return q;
     }
-    q = flushed(p, out);
-    q.checks = checks::failed(unsaid_told(p));
-    complain_line(checks::complaint(c, line, x, p.bytes));
+    let f = stream::refilled(space, p.place, p.filled);
+    if f.failed {
+        complain(b"trace: standard input can't be read\n");
+    }
+    q.place = 0;
+    q.filled = f.length;
+    q.ended = f.ended | f.failed;
+    q.failed = f.failed;
     q
 }
 
-// What is expected of a record that isn't whole yet waits for it, once.
-fn expected(p: Progress, line: u64, x: Expected, out: &[u8]) -> Progress {
-    let i = p.input;
-    if p.stopped | (i.filled <= i.place) {
-        return checked(p, line, x, out);
-    }
-    let c = p.checks;
-    if c.kept {
-        let mut q = flushed(p, out);
-        q.checks = checks::failed(c);
-        complain_line(checks::second(line, x));
-        return q;
-    }
-    let mut q = p;
-    q.checks = checks::keep(c, line, x);
-    q
+// ---- the script
+
+// What is wrong with the record at its front, by the code.
+fn fault(p: Progress, script: &[u8]) -> Fault {
+    let end = least(p.end, script.len());
+    let start = least(p.start, end);
+    account::faults::fault_in(p.code, &script[start..end])
 }
 
-// What waited for the record is checked.
-fn kept_checked(p: Progress, out: &[u8]) -> Progress {
-    let c = p.checks;
-    if !c.kept {
+// That a record can't be read is told once it is known that no line expects it.
+fn unsaid_told(p: Progress, script: &[u8]) -> Progress {
+    if !p.unsaid {
         return p;
     }
-    let x = c.expected;
+    let n = std::num::wrapping_add_u64(p.records, 1);
+    complain_line(wording::complaint(b"trace", n, p.bytes, fault(p, script)));
     let mut q = p;
-    q.checks = checks::no_more(c);
-    checked(q, c.line, x, out)
-}
-
-fn over_told(p: Progress) -> Progress {
-    let mut q = p;
-    q.checks = unsaid_told(p);
+    q.unsaid = false;
     q
 }
 
-fn all_checked(p: Progress, t: Turn, out: &[u8]) -> Progress {
-    match t {
-        Turn::Waits => p,
-        Turn::Ends => p,
-        Turn::Stops(_) => kept_checked(p, out),
-        Turn::Steps(_, _) => kept_checked(p, out),
-        Turn::Unopened => kept_checked(p, out),
-        Turn::Expects(line, x) => expected(p, line, x, out),
-        Turn::Over => over_told(p),
+// The bytes of an item, from one on, go behind those that are not used yet; behind the script's stop they say nothing.
+fn with_bytes(p: Progress, item: &[u8], from: usize, script: &mut [u8]) -> Progress {
+    if p.stopped {
+        let mut q = unsaid_told(p, script);
+        q.of = BEHIND;
+        return q;
+    }
+    let first = least(from, item.len());
+    let held = least(stream::to_front(script, p.start, p.end), script.len());
+    let n = copied(&item[first..], &mut script[held..]);
+    let mut q = p;
+    q.start = 0;
+    q.end = std::num::wrapping_add_usize(held, n);
+    q
+}
+
+fn copied(from: &[u8], to: &mut [u8]) -> usize {
+    let n = least(from.len(), to.len());
+    for i in 0..n {
+        to[i] = from[i];
+    }
+    n
+}
+
+// The last line, behind one that is begun. A lesson is read on for what it expects.
+fn stopped(p: Progress, l: Line, why: u32, script: &[u8], out: &mut [u8]) -> Progress {
+    let last = wording::last(l, why, p.bytes, p.records, p.refused);
+    let mut q = stored(p, last, out);
+    q.stopped = true;
+    q.going = p.lesson;
+    checks::kept_checked(q, script, out)
+}
+
+// Another opening than a reset is told.
+fn unopened(p: Progress, script: &[u8], out: &mut [u8]) -> Progress {
+    let end = least(p.end, script.len());
+    let start = least(p.start, end);
+    complain_line(wording::unopened_complaint(b"trace", &script[start..end]));
+    let mut q = p;
+    q.of = OPENING;
+    q.code = 11;
+    stopped(q, wording::unopened_line(p.lines), 0, script, out)
+}
+
+// The end, or a record that can't be read, by its code; where reading failed the script may just break off inside it.
+fn stop(p: Progress, code: u8, script: &[u8], out: &mut [u8]) -> Progress {
+    if p.lesson & (p.records == 0) {
+        return unopened(p, script, out);
+    }
+    if (code == 0) | (p.failed & (code == 6)) {
+        let why = bits::pick_u32(p.failed, 2, 1);
+        return stopped(p, text::empty(), why, script, out);
+    }
+    let mut q = p;
+    q.of = UNREAD;
+    q.code = code;
+    q.word = 0;
+    q.unsaid = true;
+    if !p.lesson {
+        q = unsaid_told(q, script);
+    }
+    let n = std::num::wrapping_add_u64(p.records, 1);
+    let l = wording::unread_line(n, p.bytes, fault(q, script), p.lines);
+    stopped(q, l, 0, script, out)
+}
+
+// ---- items
+
+// A number of so many bytes from a place on.
+fn number(s: &[u8], at: usize, count: usize) -> u64 {
+    let mut n: u64 = 0;
+    let mut k = count;
+    while 0 < k {
+        k -= 1;
+        let b = byte_at(s, std::num::wrapping_add_usize(at, k));
+        n = n % 72057594037927936 * 256 + b as u64;
+    }
+    n
+}
+
+// How long the next item is, or its head; a script without items is one of the bytes that are there.
+fn item_length(lesson: bool, rest: &[u8]) -> usize {
+    if !lesson & (0 < rest.len()) {
+        return least(rest.len(), LONGEST_ITEM);
+    }
+    if rest.len() < HEAD {
+        return HEAD;
+    }
+    HEAD + (number(rest, 1, 2) % 65536) as usize
+}
+
+// Items of another kind; where reading failed they may just break off.
+fn broken(p: Progress) -> Progress {
+    if !p.failed {
+        complain(b"trace: standard input has no items of a lesson\n");
+    }
+    let mut q = p;
+    q.going = false;
+    q
+}
+
+// The items end, unless some bytes are left: so does the script, and behind its end the lesson.
+fn items_ended(p: Progress, left: usize, script: &[u8], out: &mut [u8]) -> Progress {
+    if left != 0 {
+        return broken(p);
+    }
+    let mut q = p;
+    q.whole = true;
+    if !p.stopped {
+        return q;
+    }
+    q = unsaid_told(q, script);
+    q.going = false;
+    let a = text::said(text::empty(), b"% expectations checked, ", 0, p.checked);
+    stored(q, text::said(a, b"% failed\n", 0, p.failures), out)
+}
+
+fn with_item(p: Progress, item: &[u8], script: &mut [u8], out: &mut [u8]) -> Progress {
+    let n = item.len();
+    let tag = byte_at(item, 0);
+    let mut q = p;
+    q.place = std::num::wrapping_add_usize(p.place, n);
+    if (n <= LONGEST_ITEM) & (!p.lesson | (tag == SCRIPT)) {
+        return with_bytes(q, item, HEAD * (bits::one(p.lesson) as usize), script);
+    }
+    if (n == EXPECTATION_LENGTH) & (tag == EXPECTATION) {
+        let x = number(item, 11, 8);
+        return checks::expected(q, number(item, 3, 8), x, script, out);
+    }
+    broken(q)
+}
+
+fn next_item(p: Progress, space: &mut [u8], script: &mut [u8], out: &mut [u8]) -> Progress {
+    let filled = least(p.filled, space.len());
+    let place = least(p.place, filled);
+    let rest = &space[place..filled];
+    let n = item_length(p.lesson, rest);
+    if n <= rest.len() {
+        return with_item(p, &rest[0..n], script, out);
+    }
+    if p.ended | (LONGEST_ITEM < n) {
+        return items_ended(p, rest.len(), script, out);
+    }
+    read_on(p, space, out)
+}
+
+// ---- a turn of the loop
+
+// The length of the record at the front of the script, or why there is none: 6 to 8; 11, another opening than a reset; 0, no bytes.
+struct Front {
+    length: usize,
+    code: u8,
+}
+
+fn front_of(p: Progress, script: &[u8]) -> Front {
+    let end = least(p.end, script.len());
+    let start = least(p.start, end);
+    let rest = &script[start..end];
+    let x = records::reading(rest, 0);
+    match x {
+        Reading::Found(_, n) => {
+            if p.lesson & (p.records == 0) & (byte_at(rest, 0) != 1) {
+                return Front {
+                    length: 0,
+                    code: 11,
+                };
+            }
+            Front { length: n, code: 0 }
+        }
+        Reading::Malformed(code) => Front {
+            length: 0,
+            code: code,
+        },
+        Reading::End => Front { length: 0, code: 0 },
     }
 }
 
-// ---- the program
-
-fn begun(lesson: bool, going: bool) -> Progress {
-    Progress {
-        records: 0,
-        refused: 0,
-        bytes: 0,
-        text: 0,
-        lines: 0,
-        going: going,
-        input: stream::nothing_read(),
-        lesson: lesson,
-        items: stream::nothing_read(),
-        stopped: false,
-        checks: checks::none(),
+// The next record, or else the next item; `length` says whether there is a step to be made.
+fn next(p: Progress, space: &mut [u8], script: &mut [u8], out: &mut [u8]) -> Progress {
+    let x = front_of(p, script);
+    let mut q = p;
+    q.length = 0;
+    if ENOUGH_TEXT < p.text {
+        return flushed(q, out);
     }
+    if p.stopped | (!p.whole & (x.length == 0) & ((x.code == 0) | (x.code == 6))) {
+        return next_item(q, space, script, out);
+    }
+    if x.length == 0 {
+        return stop(q, x.code, script, out);
+    }
+    q.length = x.length;
+    q
 }
 
-// The step of a turn; where it has none, bit times 0, which every state refuses.
-fn step_of(t: Turn) -> Step {
-    match t {
-        Turn::Steps(e, _) => e,
+// The step of the turn; where it has none, bit times 0, which every state refuses.
+fn step_of(p: Progress, script: &[u8]) -> Step {
+    if p.length == 0 {
+        return Step::BitTimes(0);
+    }
+    let end = least(p.end, script.len());
+    let start = least(p.start, end);
+    let x = records::reading(&script[start..end], 0);
+    match x {
+        Reading::Found(e, _) => e,
         _ => Step::BitTimes(0),
     }
 }
 
-struct Session {
-    controller: Controller,
-    progress: Progress,
-}
-
-// What a turn does: its step, its text, and what is expected of it.
-fn stepped(z: Controller, u: Turned, out: &mut [u8]) -> Session {
-    let t = u.turn;
-    let q = u.progress;
-    let e = step_of(t);
-    let a = controller::step(z, e);
-    let x = account::account_of(z, e, a);
-    let next = a.controller;
-    let r = stored(told(q, t, x), out);
-    Session {
-        controller: next,
-        progress: all_checked(r, t, out),
+// The line of the step, and what waited for its answer.
+fn told(p: Progress, e: Step, a: Account, script: &[u8], out: &mut [u8]) -> Progress {
+    if p.length == 0 {
+        return p;
     }
-}
-
-fn round(s: Session, space: &mut [u8], script: &mut [u8], out: &mut [u8]) -> Session {
-    let p = s.progress;
-    let z = s.controller;
-    let u = turn_of(p, space, script, out);
-    stepped(z, u, out)
+    let g = a.place;
+    let mut q = p;
+    q.records = std::num::wrapping_add_u64(p.records, 1);
+    q.refused = std::num::wrapping_add_u64(p.refused, bits::one(a.code != 0) as u64);
+    q.bytes = std::num::wrapping_add_u64(p.bytes, p.length as u64);
+    q.start = std::num::wrapping_add_usize(p.start, p.length);
+    q.of = STEP;
+    q.code = a.code;
+    q.lines = a.lines;
+    q.word = a.word;
+    q.reason = a.reason;
+    q.index = g.index;
+    let r = stored(q, wording::line(q.records, e, a), out);
+    checks::kept_checked(r, script, out)
 }
 
 // A loop that is proved has to end, and nothing says that the input does: the turns are counted down from a number that
 // no run uses up.
 fn run(first: Progress, space: &mut [u8], script: &mut [u8], out: &mut [u8]) {
-    let mut s = Session {
-        controller: controller::reset(),
-        progress: stored(
-            Report {
-                progress: first,
-                line: wording::head(),
-            },
-            out,
-        ),
-    };
+    let mut z = controller::reset();
+    let mut p = stored(first, wording::head(), out);
     let mut turns = u64::MAX;
-    while 0 < turns && s.progress.going {
-        s = round(s, space, script, out);
+    while 0 < turns && p.going {
         turns -= 1;
+        p = next(p, space, script, out);
+        let e = step_of(p, script);
+        let a = controller::step(z, e);
+        let x = account::account_of(z, e, a);
+        z = a.controller;
+        p = told(p, e, x, script, out);
     }
-    let p = s.progress;
     flushed(p, out);
 }
 
-// Other arguments are told, and nothing is traced.
-fn arguments() -> Progress {
-    let mut text = io::buffer();
-    let length = os::arg(1, &mut text);
-    let lesson = check::same(&text[..length], b"--expects");
-    let n = os::arg_count();
-    let known = (n < 2) | ((n == 2) & lesson);
-    complain_if(!known, b"usage: trace [--expects]\n");
-    begun(lesson, known)
+// ---- the program
+
+fn begun(lesson: bool) -> Progress {
+    Progress {
+        records: 0,
+        refused: 0,
+        bytes: 0,
+        text: 0,
+        going: true,
+        place: 0,
+        filled: 0,
+        ended: false,
+        failed: false,
+        start: 0,
+        end: 0,
+        whole: false,
+        length: 0,
+        lesson: lesson,
+        stopped: false,
+        of: NOTHING,
+        code: 0,
+        lines: 0,
+        word: 0,
+        reason: 0,
+        index: 0,
+        unsaid: false,
+        line: 0,
+        expected: 0,
+        checked: 0,
+        failures: 0,
+    }
 }
 
+// Other arguments are told, and nothing is traced.
 fn main() {
+    let mut argument = io::buffer();
+    let length = os::arg(1, &mut argument);
+    let lesson = check::same(&argument[..length], b"--expects");
+    let n = os::arg_count();
+    if (2 < n) | ((n == 2) & !lesson) {
+        complain(b"usage: trace [--expects]\n");
+        return;
+    }
     let mut space = io::large_buffer();
     let mut script = io::buffer();
     let mut out = io::large_buffer();
-    let first = arguments();
-    if first.going {
-        run(first, &mut space, &mut script, &mut out);
-    }
+    run(begun(lesson), &mut space, &mut script, &mut out);
 }
