@@ -52,9 +52,9 @@ fn wanted(line: u64, x: Expected) -> Line {
     with_lines(said(a, b"refused %", 0, x.code as u64), x, x.lines)
 }
 
-fn answer(l: Line, p: Progress, script: &[u8]) -> Line {
+fn answer(l: Line, p: Progress, space: &[u8]) -> Line {
     if p.of == UNREAD {
-        return wording::fault(l, fault(p, script));
+        return wording::fault(l, fault(p, space));
     }
     if p.of == OPENING {
         return wording::unopened(l);
@@ -66,7 +66,7 @@ fn answer(l: Line, p: Progress, script: &[u8]) -> Line {
 }
 
 // What is not as a line expects it; a script that stopped did so at a byte.
-fn complaint(p: Progress, line: u64, x: Expected, script: &[u8]) -> Line {
+fn complaint(p: Progress, line: u64, x: Expected, space: &[u8]) -> Line {
     let a = wanted(line, x);
     if p.of == NOTHING {
         return put(a, b"; there is no step above\n");
@@ -76,7 +76,7 @@ fn complaint(p: Progress, line: u64, x: Expected, script: &[u8]) -> Line {
     }
     let b = put(a, b"; came ");
     if x.answered {
-        return byte(with_lines(answer(b, p, script), x, p.lines), b'\n');
+        return byte(with_lines(answer(b, p, space), x, p.lines), b'\n');
     }
     byte(with_lines(b, x, p.lines), b'\n')
 }
@@ -93,7 +93,7 @@ fn failed(p: Progress, l: Line, out: &[u8]) -> Progress {
 }
 
 // A code that is expected needs no complaint of its record.
-fn checked(p: Progress, line: u64, expected: u64, script: &[u8], out: &[u8]) -> Progress {
+fn checked(p: Progress, line: u64, expected: u64, space: &[u8], out: &[u8]) -> Progress {
     let x = decoded(expected);
     let came = Answer {
         code: p.code,
@@ -106,24 +106,24 @@ fn checked(p: Progress, line: u64, expected: u64, script: &[u8], out: &[u8]) -> 
         q.unsaid = p.unsaid & !x.answered;
         return q;
     }
-    let q = unsaid_told(p, script);
-    failed(q, complaint(q, line, x, script), out)
+    let q = unsaid_told(p, space);
+    failed(q, complaint(q, line, x, space), out)
 }
 
 // What waited for the record is checked.
-pub(crate) fn kept_checked(p: Progress, script: &[u8], out: &[u8]) -> Progress {
+pub(crate) fn kept_checked(p: Progress, space: &[u8], out: &[u8]) -> Progress {
     if p.line == 0 {
         return p;
     }
     let mut q = p;
     q.line = 0;
-    checked(q, p.line, p.expected, script, out)
+    checked(q, p.line, p.expected, space, out)
 }
 
 // What the line with a number expects of the last answer. Of a record that isn't whole yet it waits for it, once.
-pub(crate) fn expected(p: Progress, line: u64, x: u64, script: &[u8], out: &[u8]) -> Progress {
+pub(crate) fn expected(p: Progress, line: u64, x: u64, space: &[u8], out: &[u8]) -> Progress {
     if p.stopped | (p.end <= p.start) {
-        return checked(p, line, x, script, out);
+        return checked(p, line, x, space, out);
     }
     if p.line != 0 {
         let l = put(

@@ -42,8 +42,8 @@ const OPENING: u32 = 3;
 const BEHIND: u32 = 4;
 
 // The records so far, how many of them were refused, the bytes that they take; the text that waits, and whether to go on. The input
-// that is not used yet lies from `place` up to `filled` of its space, and so does the script from `start` up to `end` of another;
-// `whole`: nothing follows it. `length` is that of the record whose step is made now, 0 where there is none. The last answer, and of
+// that is not used yet lies from `place` up to `filled` of its space, and before it, from `start` up to `end`, the script that is not
+// used yet; `whole`: nothing follows it. `length` is that of the record whose step is made now, 0 where there is none. The last answer, and of
 // a refused step the number of the reason and of its mailbox or bank; `unsaid`: that a record can't be read is still to be told. What
 // a line expects of a record that isn't whole yet, by the number of the line, 0 where there is none; the expectations that were
 // checked and those that failed.
@@ -112,17 +112,37 @@ fn stored(p: Progress, l: Line, out: &mut [u8]) -> Progress {
     q
 }
 
-// All text goes out before more is read.
+// So many bytes from a place on, moved down to another.
+fn moved(space: &mut [u8], from: usize, to: usize, n: usize) {
+    for i in 0..n {
+        let b = byte_at(space, std::num::wrapping_add_usize(from, i));
+        let k = std::num::wrapping_add_usize(to, i);
+        set(space, k, b);
+    }
+}
+
+fn set(space: &mut [u8], i: usize, b: u8) {
+    if i < space.len() {
+        space[i] = b;
+    }
+}
+
+// All text goes out before more is read. What is not used yet goes to the front, the script and then the input.
 fn read_on(p: Progress, space: &mut [u8], out: &[u8]) -> Progress {
     let mut q = flushed(p, out);
     if !q.going {
         return q;
     }
-    let f = stream::refilled(space, p.place, p.filled);
+    let held = stream::to_front(space, p.start, p.end);
+    let left = std::num::wrapping_sub_usize(p.filled, p.place);
+    moved(space, p.place, held, left);
+    let f = stream::refilled(space, 0, std::num::wrapping_add_usize(held, left));
     if f.failed {
         complain(b"trace: standard input can't be read\n");
     }
-    q.place = 0;
+    q.start = 0;
+    q.end = held;
+    q.place = held;
     q.filled = f.length;
     q.ended = f.ended | f.failed;
     q.failed = f.failed;
@@ -132,76 +152,70 @@ fn read_on(p: Progress, space: &mut [u8], out: &[u8]) -> Progress {
 // ---- the script
 
 // What is wrong with the record at its front, by the code.
-fn fault(p: Progress, script: &[u8]) -> Fault {
-    let end = least(p.end, script.len());
+fn fault(p: Progress, space: &[u8]) -> Fault {
+    let end = least(p.end, space.len());
     let start = least(p.start, end);
-    account::faults::fault_in(p.code, &script[start..end])
+    account::faults::fault_in(p.code, &space[start..end])
 }
 
 // That a record can't be read is told once it is known that no line expects it.
-fn unsaid_told(p: Progress, script: &[u8]) -> Progress {
+fn unsaid_told(p: Progress, space: &[u8]) -> Progress {
     if !p.unsaid {
         return p;
     }
     let n = std::num::wrapping_add_u64(p.records, 1);
-    complain_line(wording::complaint(b"trace", n, p.bytes, fault(p, script)));
+    complain_line(wording::complaint(b"trace", n, p.bytes, fault(p, space)));
     let mut q = p;
     q.unsaid = false;
     q
 }
 
-// The bytes of an item, from one on, go behind those that are not used yet; behind the script's stop they say nothing.
-fn with_bytes(p: Progress, item: &[u8], from: usize, script: &mut [u8]) -> Progress {
+// So many bytes from a place on are the script, or go behind what is not used of it yet; behind its stop they say nothing.
+fn with_bytes(p: Progress, from: usize, n: usize, space: &mut [u8]) -> Progress {
     if p.stopped {
-        let mut q = unsaid_told(p, script);
+        let mut q = unsaid_told(p, space);
         q.of = BEHIND;
         return q;
     }
-    let first = least(from, item.len());
-    let held = least(stream::to_front(script, p.start, p.end), script.len());
-    let n = copied(&item[first..], &mut script[held..]);
     let mut q = p;
-    q.start = 0;
-    q.end = std::num::wrapping_add_usize(held, n);
+    if p.end <= p.start {
+        q.start = from;
+        q.end = std::num::wrapping_add_usize(from, n);
+        return q;
+    }
+    moved(space, from, p.end, n);
+    q.end = std::num::wrapping_add_usize(p.end, n);
     q
 }
 
-fn copied(from: &[u8], to: &mut [u8]) -> usize {
-    let n = least(from.len(), to.len());
-    for i in 0..n {
-        to[i] = from[i];
-    }
-    n
-}
-
 // The last line, behind one that is begun. A lesson is read on for what it expects.
-fn stopped(p: Progress, l: Line, why: u32, script: &[u8], out: &mut [u8]) -> Progress {
+fn stopped(p: Progress, l: Line, why: u32, space: &[u8], out: &mut [u8]) -> Progress {
     let last = wording::last(l, why, p.bytes, p.records, p.refused);
     let mut q = stored(p, last, out);
     q.stopped = true;
     q.going = p.lesson;
-    checks::kept_checked(q, script, out)
+    checks::kept_checked(q, space, out)
 }
 
 // Another opening than a reset is told.
-fn unopened(p: Progress, script: &[u8], out: &mut [u8]) -> Progress {
-    let end = least(p.end, script.len());
+fn unopened(p: Progress, space: &[u8], out: &mut [u8]) -> Progress {
+    let end = least(p.end, space.len());
     let start = least(p.start, end);
-    complain_line(wording::unopened_complaint(b"trace", &script[start..end]));
+    complain_line(wording::unopened_complaint(b"trace", &space[start..end]));
     let mut q = p;
     q.of = OPENING;
     q.code = 11;
-    stopped(q, wording::unopened_line(p.lines), 0, script, out)
+    stopped(q, wording::unopened_line(p.lines), 0, space, out)
 }
 
 // The end, or a record that can't be read, by its code; where reading failed the script may just break off inside it.
-fn stop(p: Progress, code: u8, script: &[u8], out: &mut [u8]) -> Progress {
+fn stop(p: Progress, code: u8, space: &[u8], out: &mut [u8]) -> Progress {
     if p.lesson & (p.records == 0) {
-        return unopened(p, script, out);
+        return unopened(p, space, out);
     }
     if (code == 0) | (p.failed & (code == 6)) {
         let why = bits::pick_u32(p.failed, 2, 1);
-        return stopped(p, text::empty(), why, script, out);
+        return stopped(p, text::empty(), why, space, out);
     }
     let mut q = p;
     q.of = UNREAD;
@@ -209,11 +223,11 @@ fn stop(p: Progress, code: u8, script: &[u8], out: &mut [u8]) -> Progress {
     q.word = 0;
     q.unsaid = true;
     if !p.lesson {
-        q = unsaid_told(q, script);
+        q = unsaid_told(q, space);
     }
     let n = std::num::wrapping_add_u64(p.records, 1);
-    let l = wording::unread_line(n, p.bytes, fault(q, script), p.lines);
-    stopped(q, l, 0, script, out)
+    let l = wording::unread_line(n, p.bytes, fault(q, space), p.lines);
+    stopped(q, l, 0, space, out)
 }
 
 // ---- items
@@ -233,7 +247,7 @@ fn number(s: &[u8], at: usize, count: usize) -> u64 {
 // How long the next item is, or its head; a script without items is one of the bytes that are there.
 fn item_length(lesson: bool, rest: &[u8]) -> usize {
     if !lesson & (0 < rest.len()) {
-        return least(rest.len(), LONGEST_ITEM);
+        return rest.len();
     }
     if rest.len() < HEAD {
         return HEAD;
@@ -252,7 +266,7 @@ fn broken(p: Progress) -> Progress {
 }
 
 // The items end, unless some bytes are left: so does the script, and behind its end the lesson.
-fn items_ended(p: Progress, left: usize, script: &[u8], out: &mut [u8]) -> Progress {
+fn items_ended(p: Progress, left: usize, space: &[u8], out: &mut [u8]) -> Progress {
     if left != 0 {
         return broken(p);
     }
@@ -261,37 +275,43 @@ fn items_ended(p: Progress, left: usize, script: &[u8], out: &mut [u8]) -> Progr
     if !p.stopped {
         return q;
     }
-    q = unsaid_told(q, script);
+    q = unsaid_told(q, space);
     q.going = false;
     let a = text::said(text::empty(), b"% expectations checked, ", 0, p.checked);
     stored(q, text::said(a, b"% failed\n", 0, p.failures), out)
 }
 
-fn with_item(p: Progress, item: &[u8], script: &mut [u8], out: &mut [u8]) -> Progress {
-    let n = item.len();
-    let tag = byte_at(item, 0);
+// The item of so many bytes at a place.
+fn with_item(p: Progress, place: usize, n: usize, space: &mut [u8], out: &mut [u8]) -> Progress {
+    let tag = byte_at(space, place);
     let mut q = p;
-    q.place = std::num::wrapping_add_usize(p.place, n);
-    if (n <= LONGEST_ITEM) & (!p.lesson | (tag == SCRIPT)) {
-        return with_bytes(q, item, HEAD * (bits::one(p.lesson) as usize), script);
+    q.place = std::num::wrapping_add_usize(place, n);
+    if !p.lesson {
+        return with_bytes(q, place, n, space);
     }
-    if (n == EXPECTATION_LENGTH) & (tag == EXPECTATION) {
-        let x = number(item, 11, 8);
-        return checks::expected(q, number(item, 3, 8), x, script, out);
+    let body = std::num::wrapping_add_usize(place, HEAD);
+    if (tag == SCRIPT) & (n <= LONGEST_ITEM) {
+        return with_bytes(q, body, std::num::wrapping_sub_usize(n, HEAD), space);
+    }
+    if (tag == EXPECTATION) & (n == EXPECTATION_LENGTH) {
+        let line = number(space, body, 8);
+        let x = number(space, std::num::wrapping_add_usize(body, 8), 8);
+        return checks::expected(q, line, x, space, out);
     }
     broken(q)
 }
 
-fn next_item(p: Progress, space: &mut [u8], script: &mut [u8], out: &mut [u8]) -> Progress {
+fn next_item(p: Progress, space: &mut [u8], out: &mut [u8]) -> Progress {
     let filled = least(p.filled, space.len());
     let place = least(p.place, filled);
     let rest = &space[place..filled];
+    let left = rest.len();
     let n = item_length(p.lesson, rest);
-    if n <= rest.len() {
-        return with_item(p, &rest[0..n], script, out);
+    if n <= left {
+        return with_item(p, place, n, space, out);
     }
     if p.ended | (LONGEST_ITEM < n) {
-        return items_ended(p, rest.len(), script, out);
+        return items_ended(p, left, space, out);
     }
     read_on(p, space, out)
 }
@@ -304,10 +324,10 @@ struct Front {
     code: u8,
 }
 
-fn front_of(p: Progress, script: &[u8]) -> Front {
-    let end = least(p.end, script.len());
+fn front_of(p: Progress, space: &[u8]) -> Front {
+    let end = least(p.end, space.len());
     let start = least(p.start, end);
-    let rest = &script[start..end];
+    let rest = &space[start..end];
     let x = records::reading(rest, 0);
     match x {
         Reading::Found(_, n) => {
@@ -328,31 +348,31 @@ fn front_of(p: Progress, script: &[u8]) -> Front {
 }
 
 // The next record, or else the next item; `length` says whether there is a step to be made.
-fn next(p: Progress, space: &mut [u8], script: &mut [u8], out: &mut [u8]) -> Progress {
-    let x = front_of(p, script);
+fn next(p: Progress, space: &mut [u8], out: &mut [u8]) -> Progress {
+    let x = front_of(p, space);
     let mut q = p;
     q.length = 0;
     if ENOUGH_TEXT < p.text {
         return flushed(q, out);
     }
     if p.stopped | (!p.whole & (x.length == 0) & ((x.code == 0) | (x.code == 6))) {
-        return next_item(q, space, script, out);
+        return next_item(q, space, out);
     }
     if x.length == 0 {
-        return stop(q, x.code, script, out);
+        return stop(q, x.code, space, out);
     }
     q.length = x.length;
     q
 }
 
 // The step of the turn; where it has none, bit times 0, which every state refuses.
-fn step_of(p: Progress, script: &[u8]) -> Step {
+fn step_of(p: Progress, space: &[u8]) -> Step {
     if p.length == 0 {
         return Step::BitTimes(0);
     }
-    let end = least(p.end, script.len());
+    let end = least(p.end, space.len());
     let start = least(p.start, end);
-    let x = records::reading(&script[start..end], 0);
+    let x = records::reading(&space[start..end], 0);
     match x {
         Reading::Found(e, _) => e,
         _ => Step::BitTimes(0),
@@ -360,7 +380,7 @@ fn step_of(p: Progress, script: &[u8]) -> Step {
 }
 
 // The line of the step, and what waited for its answer.
-fn told(p: Progress, e: Step, a: Account, script: &[u8], out: &mut [u8]) -> Progress {
+fn told(p: Progress, e: Step, a: Account, space: &[u8], out: &mut [u8]) -> Progress {
     if p.length == 0 {
         return p;
     }
@@ -377,23 +397,23 @@ fn told(p: Progress, e: Step, a: Account, script: &[u8], out: &mut [u8]) -> Prog
     q.reason = a.reason;
     q.index = g.index;
     let r = stored(q, wording::line(q.records, e, a), out);
-    checks::kept_checked(r, script, out)
+    checks::kept_checked(r, space, out)
 }
 
 // A loop that is proved has to end, and nothing says that the input does: the turns are counted down from a number that
 // no run uses up.
-fn run(first: Progress, space: &mut [u8], script: &mut [u8], out: &mut [u8]) {
+fn run(first: Progress, space: &mut [u8], out: &mut [u8]) {
     let mut z = controller::reset();
     let mut p = stored(first, wording::head(), out);
     let mut turns = u64::MAX;
     while 0 < turns && p.going {
         turns -= 1;
-        p = next(p, space, script, out);
-        let e = step_of(p, script);
+        p = next(p, space, out);
+        let e = step_of(p, space);
         let a = controller::step(z, e);
         let x = account::account_of(z, e, a);
         z = a.controller;
-        p = told(p, e, x, script, out);
+        p = told(p, e, x, space, out);
     }
     flushed(p, out);
 }
@@ -442,7 +462,6 @@ fn main() {
         return;
     }
     let mut space = io::large_buffer();
-    let mut script = io::buffer();
     let mut out = io::large_buffer();
-    run(begun(lesson), &mut space, &mut script, &mut out);
+    run(begun(lesson), &mut space, &mut out);
 }
