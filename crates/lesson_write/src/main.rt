@@ -112,7 +112,7 @@ fn unhexed(line: &[u8], from: usize, space: &mut [u8]) -> usize {
         let pair = value(line, i, std::num::wrapping_add_usize(i, 2), true);
         first = !first & (pair < 256);
         set(space, n, (pair % 256) as u8);
-        n = std::num::wrapping_add_usize(n, bits::one(first) as usize);
+        n = std::num::wrapping_add_usize(n, first as usize);
     }
     n
 }
@@ -170,11 +170,17 @@ fn faulty(p: Progress, line: &[u8], place: usize, rule: u32, n: u64) -> Progress
     q
 }
 
+// A line that doesn't go with those before it.
+fn misplaced(p: Progress, line: &[u8], rule: u32) -> Progress {
+    let w = word_at(line, 0);
+    let numbers = p.numbers;
+    faulty(p, line, w.from, rule, numbers[0])
+}
+
 fn opened(p: Progress, n: u32, line: &[u8]) -> Progress {
     let k = p.open;
     if DEEPEST <= k {
-        let w = word_at(line, 0);
-        return faulty(p, line, w.from, say::TOO_DEEP, 0);
+        return misplaced(p, line, say::TOO_DEEP);
     }
     let once = p.checks | (p.silent != 0) | (n == 0);
     let mut q = p;
@@ -192,8 +198,7 @@ fn opened(p: Progress, n: u32, line: &[u8]) -> Progress {
 fn closed(p: Progress, line: &[u8]) -> Progress {
     let k = std::num::wrapping_sub_usize(p.open, 1);
     if DEEPEST <= k {
-        let w = word_at(line, 0);
-        return faulty(p, line, w.from, say::NO_REPEAT, 0);
+        return misplaced(p, line, say::NO_REPEAT);
     }
     let left = p.left[k];
     let mut q = p;
@@ -233,9 +238,7 @@ fn with_line(p: Progress, line: &[u8], out: &mut [u8]) -> Progress {
     let r = with_meaning(q, lines::meaning_of(line), line, out);
     let held = std::num::wrapping_sub_usize(r.place, r.base);
     if r.going & (r.open != 0) & (LONGEST_REPEAT < held) {
-        let w = word_at(line, 0);
-        let numbers = r.numbers;
-        return faulty(r, line, w.from, say::TOO_MUCH, numbers[0]);
+        return misplaced(r, line, say::TOO_MUCH);
     }
     r
 }
@@ -245,9 +248,8 @@ fn ended(p: Progress) -> Progress {
     let mut q = p;
     q.going = false;
     if p.open != 0 {
-        let numbers = p.numbers;
         q.lines = std::num::wrapping_add_u64(p.lines, 1);
-        return faulty(q, b"", 0, say::NOT_DONE, numbers[0]);
+        return misplaced(q, b"", say::NOT_DONE);
     }
     q
 }

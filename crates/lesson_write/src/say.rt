@@ -52,7 +52,7 @@ fn word(l: Line, s: &[u8], place: usize) -> Line {
         let c = byte_at(s, std::num::wrapping_add_usize(place, i));
         m = byte(m, bits::pick_u8((c < 32) | (c == 127), b'?', c));
     }
-    said(m, b"'|..'", bits::one(k < n), 0)
+    said(m, b"'|..'", (k < n) as u32, 0)
 }
 
 // A comment is the end of its line; it begins behind a blank or at the line's start, before which a blank is read.
@@ -78,7 +78,7 @@ fn listed(l: Line, g: Group) -> Line {
     let mut m = l;
     for row in 0..NONE {
         if names::belongs(row, g) {
-            let a = said(m, b"|, ", bits::one(l.at < m.at), 0);
+            let a = said(m, b"|, ", (l.at < m.at) as u32, 0);
             m = phrases::name(a, row, 0);
             let n = names::number(row, Column::Count);
             if 1 < n {
@@ -94,7 +94,7 @@ fn fields(l: Line, s: &[u8], place: usize, offset: u32) -> Line {
     let step = word_at(s, 0);
     let register = word_at(s, step.to);
     let first = word_at(s, register.to);
-    let which = bits::one(first.from != place);
+    let which = (first.from != place) as u32;
     let f = names::register_at(offset);
     let a = said(
         l,
@@ -113,7 +113,7 @@ fn fields(l: Line, s: &[u8], place: usize, offset: u32) -> Line {
         which,
         0,
     );
-    let none = bits::one(f.row == NONE);
+    let none = (f.row == NONE) as u32;
     let e = phrases::register(said(d, b"|no register is at ", none, 0), offset);
     said(e, b" has no fields|", none, 0)
 }

@@ -32,7 +32,7 @@ fn with_lines(l: Line, x: Expected, up: u8) -> Line {
     if !x.lined {
         return l;
     }
-    let a = said(l, b"lines|, lines", bits::one(x.answered), 0);
+    let a = said(l, b"lines|, lines", x.answered as u32, 0);
     wording::lines_up(a, up, b" none")
 }
 

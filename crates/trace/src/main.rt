@@ -387,7 +387,7 @@ fn told(p: Progress, e: Step, a: Account, space: &[u8], out: &mut [u8]) -> Progr
     let g = a.place;
     let mut q = p;
     q.records = std::num::wrapping_add_u64(p.records, 1);
-    q.refused = std::num::wrapping_add_u64(p.refused, bits::one(a.code != 0) as u64);
+    q.refused = std::num::wrapping_add_u64(p.refused, (a.code != 0) as u64);
     q.bytes = std::num::wrapping_add_u64(p.bytes, p.length as u64);
     q.start = std::num::wrapping_add_usize(p.start, p.length);
     q.of = STEP;

@@ -36,9 +36,6 @@ cast-set c = search needs
 set-requires : tie.Need-set-requires Inv-loop μ-loop
 set-requires c κs = search needs
 
-one-requires : tie.Need-one-requires Inv-loop μ-loop
-one-requires c κs = search needs
-
 cast-wrapping-add-usize : tie.Need-cast-wrapping-add-usize Inv-loop μ-loop
 cast-wrapping-add-usize c = search needs
 
@@ -74,7 +71,6 @@ unhexed-spec =
     value-requires
     cast-set
     set-requires
-    one-requires
     cast-wrapping-add-usize
     wrapping-add-usize-requires-2
     add-i
