@@ -138,18 +138,6 @@ fn is_off(tec: u16) -> bool
     255 < tec
 }
 
-pub fn ewgf(e: Errors) -> bool
-    ensures { λ r. ⌜ r ≡ control.ewgf e ⌝ }
-{
-    is_warning(e.tec, e.rec)
-}
-
-pub fn epvf(e: Errors) -> bool
-    ensures { λ r. ⌜ r ≡ control.epvf e ⌝ }
-{
-    is_passive(e.tec, e.rec)
-}
-
 pub fn boff(e: Errors) -> bool
     ensures { λ r. ⌜ r ≡ control.boff e ⌝ }
 {
@@ -367,12 +355,6 @@ pub fn esr_word(e: Errors) -> u32
         + (e.rec as u32) * 0x1000000
 }
 
-pub fn status_line(k: Control) -> bool
-    ensures { λ r. ⌜ r ≡ control.statusLine k ⌝ }
-{
-    (bit(15, k.ier) & k.erri) | (bit(16, k.ier) & k.wkui) | (bit(17, k.ier) & k.slaki)
-}
-
 // ---- bus events
 
 // In bus-off (`off`) an idle counts towards recovery.
@@ -381,18 +363,6 @@ fn counts(k: Control, off: bool) -> bool
 {
     let m = k.mode;
     off & (is_normal(m) & (abom(k) | k.reinitialized))
-}
-
-pub fn idle_counts(k: Control, e: Errors) -> bool
-    ensures { λ r. ⌜ r ≡ control.idleCounts k e ⌝ }
-{
-    counts(k, is_off(e.tec))
-}
-
-pub fn recovers(k: Control, e: Errors) -> bool
-    ensures { λ r. ⌜ r ≡ control.recovers k e ⌝ }
-{
-    counts(k, is_off(e.tec)) & (127 <= k.recovery)
 }
 
 pub fn counted(k: Control, e: Errors) -> Control

@@ -240,12 +240,3 @@ pub fn output(q: FifoState) -> StoredFrame
     let oldest = q.first;
     same_frame(oldest)
 }
-
-pub fn fifo_line(q: FifoState, i: u8, ier: u32) -> bool
-    ensures { λ r. ⌜ r ≡ reception.fifoLine q i ier ⌝ }
-{
-    let place = i as u32;
-    (bit(place, ier) & !(q.count == 0))
-        | (bit(place + 1, ier) & q.full)
-        | (bit(place + 2, ier) & q.fovr)
-}

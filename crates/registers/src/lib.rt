@@ -97,33 +97,3 @@ pub fn register_of(e: Step) -> Register
     }
     register_at(o)
 }
-
-pub fn is_absent(g: Register) -> bool
-    ensures { λ r. ⌜ r ≡ registers.isAbsent g ⌝ }
-{
-    match g {
-        Register::Mcr => false,
-        Register::Msr => false,
-        Register::Tsr => false,
-        Register::Rfr(_) => false,
-        Register::Ier => false,
-        Register::Esr => false,
-        Register::Btr => false,
-        Register::Ti(_) => false,
-        Register::Tdt(_) => false,
-        Register::Tdl(_) => false,
-        Register::Tdh(_) => false,
-        Register::Ri(_) => false,
-        Register::Rdt(_) => false,
-        Register::Rdl(_) => false,
-        Register::Rdh(_) => false,
-        Register::Fmr => false,
-        Register::Fm1r => false,
-        Register::Fs1r => false,
-        Register::Ffa1r => false,
-        Register::Fa1r => false,
-        Register::R1(_) => false,
-        Register::R2(_) => false,
-        Register::Absent => true,
-    }
-}
