@@ -41,34 +41,31 @@ fn bank_read(o: u16, banks: [u32; 28]) -> Shown
 pub fn read_at(o: u16, c: Core, banks: [u32; 28]) -> Shown
     ensures { λ r. ⌜ r ≡ reading.readAt o c banks ⌝ }
 {
-    let k = c.control;
-    let t = c.transmit;
-    let f = c.filters;
     match o {
-        0x000 => found(k.mcr),
+        0x000 => found(c.control.mcr),
         0x004 => {
-            let q = t.queue;
+            let q = c.transmit.queue;
             let x = q.transmitting;
-            found(control::msr_word(k, queue::is_nobody(x)))
+            found(control::msr_word(c.control, queue::is_nobody(x)))
         }
-        0x008 => found(priority::tsr::tsr(control::txfp(k), t)),
+        0x008 => found(priority::tsr::tsr(control::txfp(c.control), c.transmit)),
         0x00C => found(receive::rfr_word(c.fifo0)),
         0x010 => found(receive::rfr_word(c.fifo1)),
-        0x014 => found(k.ier),
+        0x014 => found(c.control.ier),
         0x018 => found(control::esr_word(c.errors)),
-        0x01C => found(k.btr),
-        0x180 => found(mailboxes::ti_word(t, Mailbox::M0)),
-        0x184 => found(t.mailboxes.m0.tdt),
-        0x188 => found(t.mailboxes.m0.tdl),
-        0x18C => found(t.mailboxes.m0.tdh),
-        0x190 => found(mailboxes::ti_word(t, Mailbox::M1)),
-        0x194 => found(t.mailboxes.m1.tdt),
-        0x198 => found(t.mailboxes.m1.tdl),
-        0x19C => found(t.mailboxes.m1.tdh),
-        0x1A0 => found(mailboxes::ti_word(t, Mailbox::M2)),
-        0x1A4 => found(t.mailboxes.m2.tdt),
-        0x1A8 => found(t.mailboxes.m2.tdl),
-        0x1AC => found(t.mailboxes.m2.tdh),
+        0x01C => found(c.control.btr),
+        0x180 => found(mailboxes::ti_word(c.transmit, Mailbox::M0)),
+        0x184 => found(c.transmit.mailboxes.m0.tdt),
+        0x188 => found(c.transmit.mailboxes.m0.tdl),
+        0x18C => found(c.transmit.mailboxes.m0.tdh),
+        0x190 => found(mailboxes::ti_word(c.transmit, Mailbox::M1)),
+        0x194 => found(c.transmit.mailboxes.m1.tdt),
+        0x198 => found(c.transmit.mailboxes.m1.tdl),
+        0x19C => found(c.transmit.mailboxes.m1.tdh),
+        0x1A0 => found(mailboxes::ti_word(c.transmit, Mailbox::M2)),
+        0x1A4 => found(c.transmit.mailboxes.m2.tdt),
+        0x1A8 => found(c.transmit.mailboxes.m2.tdl),
+        0x1AC => found(c.transmit.mailboxes.m2.tdh),
         0x1B0 => {
             let y = receive::output(c.fifo0);
             found(y.ri)
@@ -101,11 +98,11 @@ pub fn read_at(o: u16, c: Core, banks: [u32; 28]) -> Shown
             let y = receive::output(c.fifo1);
             found(y.rdh)
         }
-        0x200 => found(0x2A1C0E00 + bits::one(f.finit)),
-        0x204 => found(f.mode),
-        0x20C => found(f.scale),
-        0x214 => found(f.assignment),
-        0x21C => found(f.activation),
+        0x200 => found(0x2A1C0E00 + bits::one(c.filters.finit)),
+        0x204 => found(c.filters.mode),
+        0x20C => found(c.filters.scale),
+        0x214 => found(c.filters.assignment),
+        0x21C => found(c.filters.activation),
         _ => bank_read(o, banks),
     }
 }
