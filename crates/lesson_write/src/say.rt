@@ -106,10 +106,10 @@ fn name(l: Line, row: usize) -> Line {
 fn listed(l: Line, g: Group) -> Line {
     let first = l.at;
     let mut m = l;
-    for row in 0..NONE {
-        if names::belongs(row, g) {
-            m = name(said(m, b"|, ", bits::one(first < m.at), 0), row);
-        }
+    let x = names::rows_of(g);
+    for k in 0..x.count {
+        let row = x.first as usize + k as usize;
+        m = name(said(m, b"|, ", bits::one(first < m.at), 0), row);
     }
     m
 }

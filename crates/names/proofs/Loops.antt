@@ -1,14 +1,14 @@
 -- The definitions that count what is left, one place on and at their end: what a loop needs to carry them.
-use mathlib.Core.Bool.{Bool, true, false}
+use mathlib.Core.Bool.{Bool, true, false, not, _||_}
 use mathlib.Core.Path.{_≡_, ap, _∙_}
 use mathlib.Core.List.{List}
 use Prim.Native.Nat.{ℕ, suc, _+_, _-_, _<_, _≤_}
 use native.Mathlib.Omega.{arith}
-use borrow.Author.Tests.{eq-eqb, ne-eqb}
+use lib.Dec.{eqb, leb}
+use lib.ListN.{getD}
 use Rattle.model.specs.Base.{pick}
-use Rattle.names.specs.Scan.{byteAt, behind, isOf, runOn, withDigit, valueOn, letter}
-use Rattle.names.specs.Listing.{tableByte}
-use Rattle.names.specs.Rows.{nowhere, start, cellLetter, sameOn, alikeOn, digitsOn, isNamed, findOn, isAt, indexAt, registerOn}
+use Rattle.names.specs.Scan.{byteAt, isOf, runOn, withDigit, valueOn}
+use Rattle.names.specs.Rows.{none, nowhere, sameOn, isNamed, findOn, isAt, indexAt, registerOn}
 use Rattle.names.specs.declared.scan.Class.{Class}
 use Rattle.names.specs.declared.scan.Word.{Word}
 
@@ -41,53 +41,34 @@ module _ (s : List ℕ) (i j a : ℕ) (hex : Bool) where
   unfolding valueOn
   value-ended h = ap (λ (n : ℕ). valueOn s i hex n a) (none-left i j h)
 
-module _ (row i j a : ℕ) (hex : Bool) where
-  pub digits-on : i < j → digitsOn row i hex (j - i) a ≡ digitsOn row (i + 1) hex (j - (i + 1)) (withDigit a (tableByte (behind (start row) i)) hex)
-  unfolding digitsOn
-  digits-on h = ap (λ (n : ℕ). digitsOn row i hex n a) (left i j h)
-
-  pub digits-ended : j ≤ i → digitsOn row i hex (j - i) a ≡ a
-  unfolding digitsOn
-  digits-ended h = ap (λ (n : ℕ). digitsOn row i hex n a) (none-left i j h)
-
-module _ (s : List ℕ) (w : Word) (p k j : ℕ) where
-  pub same-on : k < j → letter s w k ≡ cellLetter p k → sameOn s w p k (j - k) ≡ sameOn s w p (k + 1) (j - (k + 1))
+module _ (s : List ℕ) (w : Word) (t : List ℕ) (k p j : ℕ) where
+  pub same-on : k < j → sameOn s w t k p (j - k) ≡
+      pick (eqb (getD t k 0) 32) (eqb p (w .to))
+      (pick (eqb (getD t k 0) 37) (pick (not (eqb p (w .digits)) || leb (w .rest) (w .digits)) false (sameOn s w t (k + 1) (w .rest) (j - (k + 1))))
+      (pick (leb (w .to) p || not (eqb (byteAt s p) (getD t k 0))) false (sameOn s w t (k + 1) (p + 1) (j - (k + 1)))))
   unfolding sameOn
-  same-on h e = ap (sameOn s w p k) (left k j h) ∙ ap (λ (b : Bool). pick b (sameOn s w p (k + 1) (j - (k + 1))) false) (eq-eqb _ _ e)
+  same-on h = ap (sameOn s w t k p) (left k j h)
 
-  pub same-stops : k < j → (letter s w k ≡ cellLetter p k → ⊥) → sameOn s w p k (j - k) ≡ false
+  pub same-ended : j ≤ k → sameOn s w t k p (j - k) ≡ eqb p (w .to)
   unfolding sameOn
-  same-stops h e = ap (sameOn s w p k) (left k j h) ∙ ap (λ (b : Bool). pick b (sameOn s w p (k + 1) (j - (k + 1))) false) (ne-eqb _ _ e)
+  same-ended h = ap (sameOn s w t k p) (none-left k j h)
 
-  pub same-ended : j ≤ k → sameOn s w p k (j - k) ≡ true
-  unfolding sameOn
-  same-ended h = ap (sameOn s w p k) (none-left k j h)
-
-module _ (p q k j : ℕ) where
-  pub alike-on : k < j → cellLetter p k ≡ cellLetter q k → alikeOn p q k (j - k) ≡ alikeOn p q (k + 1) (j - (k + 1))
-  unfolding alikeOn
-  alike-on h e = ap (alikeOn p q k) (left k j h) ∙ ap (λ (b : Bool). pick b (alikeOn p q (k + 1) (j - (k + 1))) false) (eq-eqb _ _ e)
-
-  pub alike-stops : k < j → (cellLetter p k ≡ cellLetter q k → ⊥) → alikeOn p q k (j - k) ≡ false
-  unfolding alikeOn
-  alike-stops h e = ap (alikeOn p q k) (left k j h) ∙ ap (λ (b : Bool). pick b (alikeOn p q (k + 1) (j - (k + 1))) false) (ne-eqb _ _ e)
-
-  pub alike-ended : j ≤ k → alikeOn p q k (j - k) ≡ true
-  unfolding alikeOn
-  alike-ended h = ap (alikeOn p q k) (none-left k j h)
-
-module _ (s : List ℕ) (w : Word) (g row j : ℕ) where
-  pub find-on : row < j → isNamed s w g row ≡ false → findOn s w g row (j - row) ≡ findOn s w g (row + 1) (j - (row + 1))
+module _ (s : List ℕ) (w : Word) (row k j : ℕ) where
+  further : k < j → findOn s w (row + k) (j - k) ≡ pick (isNamed s w (row + k)) (row + k) (findOn s w (row + (k + 1)) (j - (k + 1)))
   unfolding findOn
-  find-on h e = ap (findOn s w g row) (left row j h) ∙ ap (λ (b : Bool). pick b row (findOn s w g (row + 1) (j - (row + 1)))) e
+  further h =
+      let e : row + k + 1 ≡ row + (k + 1) = omega arith in
+      ap (findOn s w (row + k)) (left k j h) ∙ ap (λ (r : ℕ). pick (isNamed s w (row + k)) (row + k) (findOn s w r (j - (k + 1)))) e
 
-  pub find-stops : row < j → isNamed s w g row ≡ true → findOn s w g row (j - row) ≡ row
-  unfolding findOn
-  find-stops h e = ap (findOn s w g row) (left row j h) ∙ ap (λ (b : Bool). pick b row (findOn s w g (row + 1) (j - (row + 1)))) e
+  pub find-on : k < j → isNamed s w (row + k) ≡ false → findOn s w (row + k) (j - k) ≡ findOn s w (row + (k + 1)) (j - (k + 1))
+  find-on h e = further h ∙ ap (λ (b : Bool). pick b (row + k) (findOn s w (row + (k + 1)) (j - (k + 1)))) e
 
-  pub find-ended : j ≤ row → findOn s w g row (j - row) ≡ row
+  pub find-stops : k < j → isNamed s w (row + k) ≡ true → findOn s w (row + k) (j - k) ≡ row + k
+  find-stops h e = further h ∙ ap (λ (b : Bool). pick b (row + k) (findOn s w (row + (k + 1)) (j - (k + 1)))) e
+
+  pub find-ended : j ≤ k → findOn s w (row + k) (j - k) ≡ none
   unfolding findOn
-  find-ended h = ap (findOn s w g row) (none-left row j h)
+  find-ended h = ap (findOn s w (row + k)) (none-left k j h)
 
 module _ (o row j : ℕ) where
   pub register-on : row < j → isAt row o ≡ false → registerOn o row (j - row) ≡ registerOn o (row + 1) (j - (row + 1))

@@ -83,14 +83,3 @@ unfoldable pub wordAt : List ℕ → ℕ → Word
 wordAt s p =
     pick (eqb (byteAt s (runEnd s p Blank)) 35) (plain (runEnd s p Blank) (runEnd s p Blank))
     (wordFrom s (runEnd s p Blank) (runEnd s (runEnd s p Blank) NoBlank))
-
--- byte k of what stands from i up to j; behind it a blank
-unfoldable pub letterOf : List ℕ → ℕ → ℕ → ℕ → ℕ
-letterOf s i j k = pick (leb (j - i) k) 32 (byteAt s (behind i k))
-
--- letter k of a word, with '%' for its digits
-unfoldable pub letter : List ℕ → Word → ℕ → ℕ
-letter s w k =
-    pick (leb (w .rest) (w .digits)) (letterOf s (w .from) (w .to) k)
-    (pick (ltb k (w .digits - w .from)) (letterOf s (w .from) (w .digits) k)
-    (pick (eqb k (w .digits - w .from)) 37 (letterOf s (w .rest) (w .to) (k - (w .digits - w .from) - 1))))

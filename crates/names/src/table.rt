@@ -1,178 +1,215 @@
-// The list of names, and one byte of it; the same rows stand in specs/Listing.antt, what their columns are in specs/Rows.antt.
+// The list of names, row by row; the same rows stand in specs/Listing.antt, what their columns are in specs/Rows.antt.
 ghost use mathlib.Core.Path.{_≡_};
 ghost use Rattle.names.specs.Listing as listing;
-use super::scan::byte_at;
 
-// Byte i of the rows, one behind the other; behind the last a blank.
-pub(crate) fn at(i: usize) -> u8
-    ensures { λ r. ⌜ r ≡ listing.tableByte i ⌝ }
+// Row i of rows that stand one behind the other; where there is none a row of blanks.
+fn cut(s: &[u8], i: usize) -> [u8; 24]
+    ensures { λ r. ⌜ r ≡ listing.cut (now (s .entry)) i ⌝ }
 {
-    byte_at(
+    let mut row = [b' '; 24];
+    if s.len() / 24 <= i {
+        return row;
+    }
+    let from = i * 24;
+    let mut k: usize = 0;
+    while k < 24 {
+        row[k] = s[from + k];
+        k += 1;
+    }
+    row
+}
+
+// The words of a lesson and the registers.
+fn general(i: usize) -> [u8; 24]
+    ensures { λ r. ⌜ r ≡ listing.rowOf listing.general i ⌝ }
+{
+    cut(
         b"\
-    step    reset   001 01 01 0 0\
-    step    read    002 01 01 0 0\
-    step    write   003 01 01 0 0\
-    step    idle    004 01 01 0 0\
-    step    bits    005 01 01 0 0\
-    step    activity006 01 01 0 0\
-    step    start   007 01 01 0 0\
-    step    end     008 01 01 0 0\
-    step    frame   009 01 01 0 0\
-    step    error   010 01 01 0 0\
-    step    expect  011 01 01 0 0\
-    step    repeat  012 01 01 0 0\
-    step    done    013 01 01 0 0\
-    step    bytes   014 01 01 0 0\
-    end     good    000 01 01 0 0\
-    end     stuff   001 01 01 0 0\
-    end     form    002 01 01 0 0\
-    end     ack     003 01 01 0 0\
-    end     bit1    004 01 01 0 0\
-    end     bit0    005 01 01 0 0\
-    end     crc     006 01 01 0 0\
-    end     lost    007 01 01 0 0\
-    lines   TX      000 01 01 0 0\
-    lines   FIFO0   001 01 01 0 0\
-    lines   FIFO1   002 01 01 0 0\
-    lines   SCE     003 01 01 0 0\
-    lines   none    004 01 01 0 0\
-    expect  refused 001 01 01 0 0\
-    expect  lines   002 01 01 0 0\
-    bxCAN   MCR     000 04 01 0 0\
-    bxCAN   MSR     004 04 01 0 0\
-    bxCAN   TSR     008 04 01 0 0\
-    bxCAN   RF0R    00C 04 01 0 0\
-    bxCAN   RF1R    010 04 01 0 0\
-    bxCAN   IER     014 04 01 0 0\
-    bxCAN   ESR     018 04 01 0 0\
-    bxCAN   BTR     01C 04 01 0 0\
-    bxCAN   TI%R    180 16 03 0 0\
-    bxCAN   TDT%R   184 16 03 0 0\
-    bxCAN   TDL%R   188 16 03 0 0\
-    bxCAN   TDH%R   18C 16 03 0 0\
-    bxCAN   RI%R    1B0 16 02 0 0\
-    bxCAN   RDT%R   1B4 16 02 0 0\
-    bxCAN   RDL%R   1B8 16 02 0 0\
-    bxCAN   RDH%R   1BC 16 02 0 0\
-    bxCAN   FMR     200 04 01 0 0\
-    bxCAN   FM1R    204 04 01 0 0\
-    bxCAN   FS1R    20C 04 01 0 0\
-    bxCAN   FFA1R   214 04 01 0 0\
-    bxCAN   FA1R    21C 04 01 0 0\
-    bxCAN   F%R1    240 08 14 0 0\
-    bxCAN   F%R2    244 08 14 0 0\
-    MCR     INRQ    000 01 01 0 0\
-    MCR     SLEEP   001 01 01 0 0\
-    MCR     TXFP    002 01 01 0 0\
-    MCR     RFLM    003 01 01 0 0\
-    MCR     NART    004 01 01 0 0\
-    MCR     AWUM    005 01 01 0 0\
-    MCR     ABOM    006 01 01 0 0\
-    MCR     TTCM    007 01 01 0 0\
-    MCR     RESET   015 01 01 0 0\
-    MCR     DBF     016 01 01 0 0\
-    MSR     INAK    000 01 01 0 0\
-    MSR     SLAK    001 01 01 0 0\
-    MSR     ERRI    002 01 01 0 0\
-    MSR     WKUI    003 01 01 0 0\
-    MSR     SLAKI   004 01 01 0 0\
-    MSR     TXM     008 01 01 0 0\
-    MSR     RXM     009 01 01 0 0\
-    MSR     SAMP    010 01 01 0 0\
-    MSR     RX      011 01 01 0 0\
-    TSR     RQCP0   000 01 01 0 0\
-    TSR     TXOK0   001 01 01 0 0\
-    TSR     ALST0   002 01 01 0 0\
-    TSR     TERR0   003 01 01 0 0\
-    TSR     ABRQ0   007 01 01 0 0\
-    TSR     RQCP1   008 01 01 0 0\
-    TSR     TXOK1   009 01 01 0 0\
-    TSR     ALST1   010 01 01 0 0\
-    TSR     TERR1   011 01 01 0 0\
-    TSR     ABRQ1   015 01 01 0 0\
-    TSR     RQCP2   016 01 01 0 0\
-    TSR     TXOK2   017 01 01 0 0\
-    TSR     ALST2   018 01 01 0 0\
-    TSR     TERR2   019 01 01 0 0\
-    TSR     ABRQ2   023 01 01 0 0\
-    TSR     CODE    024 02 01 0 0\
-    TSR     TME0    026 01 01 0 0\
-    TSR     TME1    027 01 01 0 0\
-    TSR     TME2    028 01 01 0 0\
-    TSR     LOW0    029 01 01 0 0\
-    TSR     LOW1    030 01 01 0 0\
-    TSR     LOW2    031 01 01 0 0\
-    RF0R    FMP0    000 02 01 0 0\
-    RF0R    FULL0   003 01 01 0 0\
-    RF0R    FOVR0   004 01 01 0 0\
-    RF0R    RFOM0   005 01 01 0 0\
-    RF1R    FMP1    000 02 01 0 0\
-    RF1R    FULL1   003 01 01 0 0\
-    RF1R    FOVR1   004 01 01 0 0\
-    RF1R    RFOM1   005 01 01 0 0\
-    IER     TMEIE   000 01 01 0 0\
-    IER     FMPIE0  001 01 01 0 0\
-    IER     FFIE0   002 01 01 0 0\
-    IER     FOVIE0  003 01 01 0 0\
-    IER     FMPIE1  004 01 01 0 0\
-    IER     FFIE1   005 01 01 0 0\
-    IER     FOVIE1  006 01 01 0 0\
-    IER     EWGIE   008 01 01 0 0\
-    IER     EPVIE   009 01 01 0 0\
-    IER     BOFIE   010 01 01 0 0\
-    IER     LECIE   011 01 01 0 0\
-    IER     ERRIE   015 01 01 0 0\
-    IER     WKUIE   016 01 01 0 0\
-    IER     SLKIE   017 01 01 0 0\
-    ESR     EWGF    000 01 01 0 0\
-    ESR     EPVF    001 01 01 0 0\
-    ESR     BOFF    002 01 01 0 0\
-    ESR     LEC     004 03 01 0 0\
-    ESR     TEC     016 08 01 0 0\
-    ESR     REC     024 08 01 0 0\
-    BTR     BRP     000 10 01 0 0\
-    BTR     TS1     016 04 01 0 0\
-    BTR     TS2     020 03 01 0 0\
-    BTR     SJW     024 02 01 0 0\
-    BTR     LBKM    030 01 01 0 0\
-    BTR     SILM    031 01 01 0 0\
-    TI%R    STID    021 11 01 3 1\
-    TI%R    EXID    003 29 01 8 2\
-    TI%R    IDE     002 01 01 0 0\
-    TI%R    RTR     001 01 01 0 0\
-    TI%R    TXRQ    000 01 01 0 0\
-    TDT%R   DLC     000 04 01 0 0\
-    TDT%R   TGT     008 01 01 0 0\
-    TDT%R   TIME    016 16 01 0 0\
-    TDL%R   DATA0   000 08 01 2 0\
-    TDL%R   DATA1   008 08 01 2 0\
-    TDL%R   DATA2   016 08 01 2 0\
-    TDL%R   DATA3   024 08 01 2 0\
-    TDH%R   DATA4   000 08 01 2 0\
-    TDH%R   DATA5   008 08 01 2 0\
-    TDH%R   DATA6   016 08 01 2 0\
-    TDH%R   DATA7   024 08 01 2 0\
-    RI%R    STID    021 11 01 3 1\
-    RI%R    EXID    003 29 01 8 2\
-    RI%R    IDE     002 01 01 0 0\
-    RI%R    RTR     001 01 01 0 0\
-    RDT%R   DLC     000 04 01 0 0\
-    RDT%R   FMI     008 08 01 0 0\
-    RDT%R   TIME    016 16 01 0 0\
-    RDL%R   DATA0   000 08 01 2 0\
-    RDL%R   DATA1   008 08 01 2 0\
-    RDL%R   DATA2   016 08 01 2 0\
-    RDL%R   DATA3   024 08 01 2 0\
-    RDH%R   DATA4   000 08 01 2 0\
-    RDH%R   DATA5   008 08 01 2 0\
-    RDH%R   DATA6   016 08 01 2 0\
-    RDH%R   DATA7   024 08 01 2 0\
-    FMR     FINIT   000 01 01 0 0\
-    FM1R    FBM%    000 01 14 0 0\
-    FS1R    FSC%    000 01 14 0 0\
-    FFA1R   FFA%    000 01 14 0 0\
-    FA1R    FACT%   000 01 14 0 0\
+    reset   001 01 01 000 00\
+    read    002 01 01 000 00\
+    write   003 01 01 000 00\
+    idle    004 01 01 000 00\
+    bits    005 01 01 000 00\
+    activity006 01 01 000 00\
+    start   007 01 01 000 00\
+    end     008 01 01 000 00\
+    frame   009 01 01 000 00\
+    error   010 01 01 000 00\
+    expect  011 01 01 000 00\
+    repeat  012 01 01 000 00\
+    done    013 01 01 000 00\
+    bytes   014 01 01 000 00\
+    good    000 01 01 000 00\
+    stuff   001 01 01 000 00\
+    form    002 01 01 000 00\
+    ack     003 01 01 000 00\
+    bit1    004 01 01 000 00\
+    bit0    005 01 01 000 00\
+    crc     006 01 01 000 00\
+    lost    007 01 01 000 00\
+    TX      000 01 01 000 00\
+    FIFO0   001 01 01 000 00\
+    FIFO1   002 01 01 000 00\
+    SCE     003 01 01 000 00\
+    none    004 01 01 000 00\
+    refused 001 01 01 000 00\
+    lines   002 01 01 000 00\
+    MCR     000 04 01 052 10\
+    MSR     004 04 01 062 09\
+    TSR     008 04 01 071 22\
+    RF0R    00C 04 01 093 04\
+    RF1R    010 04 01 097 04\
+    IER     014 04 01 101 14\
+    ESR     018 04 01 115 06\
+    BTR     01C 04 01 121 06\
+    TI%R    180 16 03 127 05\
+    TDT%R   184 16 03 132 03\
+    TDL%R   188 16 03 135 04\
+    TDH%R   18C 16 03 139 04\
+    RI%R    1B0 16 02 143 04\
+    RDT%R   1B4 16 02 147 03\
+    RDL%R   1B8 16 02 150 04\
+    RDH%R   1BC 16 02 154 04\
+    FMR     200 04 01 158 01\
+    FM1R    204 04 01 159 01\
+    FS1R    20C 04 01 160 01\
+    FFA1R   214 04 01 161 01\
+    FA1R    21C 04 01 162 01\
+    F%R1    240 08 14 000 00\
+    F%R2    244 08 14 000 00\
 ",
         i,
     )
+}
+
+// The fields of the registers.
+fn field(i: usize) -> [u8; 24]
+    ensures { λ r. ⌜ r ≡ listing.rowOf listing.fields i ⌝ }
+{
+    cut(
+        b"\
+    INRQ    000 01 01 000 00\
+    SLEEP   001 01 01 000 00\
+    TXFP    002 01 01 000 00\
+    RFLM    003 01 01 000 00\
+    NART    004 01 01 000 00\
+    AWUM    005 01 01 000 00\
+    ABOM    006 01 01 000 00\
+    TTCM    007 01 01 000 00\
+    RESET   015 01 01 000 00\
+    DBF     016 01 01 000 00\
+    INAK    000 01 01 000 00\
+    SLAK    001 01 01 000 00\
+    ERRI    002 01 01 000 00\
+    WKUI    003 01 01 000 00\
+    SLAKI   004 01 01 000 00\
+    TXM     008 01 01 000 00\
+    RXM     009 01 01 000 00\
+    SAMP    010 01 01 000 00\
+    RX      011 01 01 000 00\
+    RQCP0   000 01 01 000 00\
+    TXOK0   001 01 01 000 00\
+    ALST0   002 01 01 000 00\
+    TERR0   003 01 01 000 00\
+    ABRQ0   007 01 01 000 00\
+    RQCP1   008 01 01 000 00\
+    TXOK1   009 01 01 000 00\
+    ALST1   010 01 01 000 00\
+    TERR1   011 01 01 000 00\
+    ABRQ1   015 01 01 000 00\
+    RQCP2   016 01 01 000 00\
+    TXOK2   017 01 01 000 00\
+    ALST2   018 01 01 000 00\
+    TERR2   019 01 01 000 00\
+    ABRQ2   023 01 01 000 00\
+    CODE    024 02 01 000 00\
+    TME0    026 01 01 000 00\
+    TME1    027 01 01 000 00\
+    TME2    028 01 01 000 00\
+    LOW0    029 01 01 000 00\
+    LOW1    030 01 01 000 00\
+    LOW2    031 01 01 000 00\
+    FMP0    000 02 01 000 00\
+    FULL0   003 01 01 000 00\
+    FOVR0   004 01 01 000 00\
+    RFOM0   005 01 01 000 00\
+    FMP1    000 02 01 000 00\
+    FULL1   003 01 01 000 00\
+    FOVR1   004 01 01 000 00\
+    RFOM1   005 01 01 000 00\
+    TMEIE   000 01 01 000 00\
+    FMPIE0  001 01 01 000 00\
+    FFIE0   002 01 01 000 00\
+    FOVIE0  003 01 01 000 00\
+    FMPIE1  004 01 01 000 00\
+    FFIE1   005 01 01 000 00\
+    FOVIE1  006 01 01 000 00\
+    EWGIE   008 01 01 000 00\
+    EPVIE   009 01 01 000 00\
+    BOFIE   010 01 01 000 00\
+    LECIE   011 01 01 000 00\
+    ERRIE   015 01 01 000 00\
+    WKUIE   016 01 01 000 00\
+    SLKIE   017 01 01 000 00\
+    EWGF    000 01 01 000 00\
+    EPVF    001 01 01 000 00\
+    BOFF    002 01 01 000 00\
+    LEC     004 03 01 000 00\
+    TEC     016 08 01 000 00\
+    REC     024 08 01 000 00\
+    BRP     000 10 01 000 00\
+    TS1     016 04 01 000 00\
+    TS2     020 03 01 000 00\
+    SJW     024 02 01 000 00\
+    LBKM    030 01 01 000 00\
+    SILM    031 01 01 000 00\
+    STID    021 11 01 003 01\
+    EXID    003 29 01 008 02\
+    IDE     002 01 01 000 00\
+    RTR     001 01 01 000 00\
+    TXRQ    000 01 01 000 00\
+    DLC     000 04 01 000 00\
+    TGT     008 01 01 000 00\
+    TIME    016 16 01 000 00\
+    DATA0   000 08 01 002 00\
+    DATA1   008 08 01 002 00\
+    DATA2   016 08 01 002 00\
+    DATA3   024 08 01 002 00\
+    DATA4   000 08 01 002 00\
+    DATA5   008 08 01 002 00\
+    DATA6   016 08 01 002 00\
+    DATA7   024 08 01 002 00\
+    STID    021 11 01 003 01\
+    EXID    003 29 01 008 02\
+    IDE     002 01 01 000 00\
+    RTR     001 01 01 000 00\
+    DLC     000 04 01 000 00\
+    FMI     008 08 01 000 00\
+    TIME    016 16 01 000 00\
+    DATA0   000 08 01 002 00\
+    DATA1   008 08 01 002 00\
+    DATA2   016 08 01 002 00\
+    DATA3   024 08 01 002 00\
+    DATA4   000 08 01 002 00\
+    DATA5   008 08 01 002 00\
+    DATA6   016 08 01 002 00\
+    DATA7   024 08 01 002 00\
+    FINIT   000 01 01 000 00\
+    FBM%    000 01 14 000 00\
+    FSC%    000 01 14 000 00\
+    FFA%    000 01 14 000 00\
+    FACT%   000 01 14 000 00\
+",
+        i,
+    )
+}
+
+// A row as bytes. Each part of the list has a function of its own, for a function stores its literals whole, whatever is asked.
+pub fn text(row: usize) -> [u8; 24]
+    ensures { λ r. ⌜ r ≡ listing.text row ⌝ }
+{
+    if row < 52 {
+        return general(row);
+    }
+    field(row - 52)
 }

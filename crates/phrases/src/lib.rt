@@ -7,8 +7,8 @@ ghost use Rattle.phrases.specs.Names as naming;
 ghost use Rattle.phrases.specs.Steps as steps;
 use model::Step;
 use names::Group;
-use names::rows::Column;
 use names::rows::Found;
+use names::rows::Numbers;
 use text::Line;
 use text::byte;
 use text::decimal;
@@ -19,27 +19,24 @@ mod frames; // a frame, and bytes as they are
 
 // ---- names
 
-fn letter(l: Line, b: u8, index: u32) -> Line
-    ensures { λ r. ⌜ r ≡ lines.putAll l (naming.letterText b index) ⌝ }
-{
-    if b == b' ' {
-        return l;
-    }
-    if b == b'%' {
-        return decimal(l, index as u64);
-    }
-    byte(l, b)
-}
-
 // A name of the table, with the index in place of the percent sign.
 pub fn name(l: Line, row: usize, index: u32) -> Line
     ensures { λ r. ⌜ r ≡ lines.putAll l (naming.nameText row index) ⌝ }
 {
+    let t = names::table::text(row);
     let mut m = l;
     let mut k: usize = 0;
     while k < 8 {
-        m = letter(m, names::letter(row, k), index);
+        let c = t[k];
         k += 1;
+        if c == b' ' {
+            return m;
+        }
+        if c == b'%' {
+            m = decimal(m, index as u64);
+            continue;
+        }
+        m = byte(m, c);
     }
     m
 }
@@ -60,89 +57,54 @@ pub fn register(l: Line, offset: u32) -> Line
 // A line with fields, and what they leave of the word.
 struct Said {
     line: Line,
-    rest: u32,
-}
-
-fn value(f: Found, w: u32) -> u32
-    ensures { λ r. ⌜ r ≡ naming.fieldValue f w ⌝ }
-{
-    let at = names::place(f);
-    let size = names::number(f.row, Column::Size);
-    if 32 <= at {
-        return 0;
-    }
-    let low = at as u32;
-    let rest = w >> low;
-    if 32 <= size {
-        return rest;
-    }
-    rest % (1 << size)
-}
-
-// The field alone, where it stands in the word.
-fn placed(f: Found, w: u32) -> u32
-    ensures { λ r. ⌜ r ≡ naming.placed f w ⌝ }
-{
-    let at = names::place(f);
-    let n = value(f, w);
-    if 32 <= at {
-        return 0;
-    }
-    let low = at as u32;
-    n << low
-}
-
-fn is_shown(row: usize, w: u32) -> bool
-    ensures { λ r. ⌜ r ≡ naming.isShown row w ⌝ }
-{
-    let shown = names::number(row, Column::Shown);
-    let extended = bits::bit(2, w);
-    if shown == 1 {
-        return !extended;
-    }
-    if shown == 2 {
-        return extended;
-    }
-    true
+    rest: usize,
 }
 
 // The number of a field of several bits.
-fn amount(l: Line, row: usize, n: u32) -> Line
-    ensures { λ r. ⌜ r ≡ lines.putAll l (naming.amountText row n) ⌝ }
+fn amount(l: Line, size: u32, digits: u32, n: u32) -> Line
+    ensures { λ r. ⌜ r ≡ lines.putAll l (naming.amountText size digits n) ⌝ }
 {
-    if names::number(row, Column::Size) == 1 {
+    if size == 1 {
         return l;
     }
     let a = put(l, b" ");
-    let digits = names::number(row, Column::Digits);
     if digits == 0 {
         return decimal(a, n as u64);
     }
     hex(a, n, digits)
 }
 
-fn less(a: u32, b: u32) -> u32
-    ensures { λ r. ⌜ r ≡ a - b ⌝ }
+// The field at some bits of a word; 0 where they are none.
+fn value(place: u64, size: u32, w: u32) -> u32
+    ensures { λ r. ⌜ r ≡ naming.fieldValue place size w ⌝ }
 {
-    if a < b {
+    if 32 <= place {
         return 0;
     }
-    a - b
+    let rest = w >> place as u32;
+    if 32 <= size {
+        return rest;
+    }
+    rest % (1 << size)
 }
 
 // A field, where it isn't 0 and is shown.
-fn with_field(s: Said, f: Found, w: u32) -> Said
-    ensures { λ r. ⌜ r ≡ naming.withField s f w ⌝ }
+fn with_field(s: Said, n: Numbers, f: Found, w: u32) -> Said
+    ensures { λ r. ⌜ r ≡ naming.withField s n f w ⌝ }
 {
-    let n = value(f, w);
-    if (n == 0) | !is_shown(f.row, w) {
+    let place = n.place as u64 + n.size as u64 * f.index as u64;
+    let v = value(place, n.size, w);
+    let extended = w / 4 % 2 == 1;
+    let hidden = ((n.shown == 1) & extended) | ((n.shown == 2) & !extended);
+    if (v == 0) | hidden | (32 <= place) {
         return s;
     }
-    let rest = less(s.rest, placed(f, w));
+    let placed = v << place as u32;
+    let rest = names::scan::distance(placed as usize, s.rest);
     let l = s.line;
     let a = name(put(l, b" "), f.row, f.index);
     Said {
-        line: amount(a, f.row, n),
+        line: amount(a, n.size, n.digits, v),
         rest: rest,
     }
 }
@@ -150,35 +112,29 @@ fn with_field(s: Said, f: Found, w: u32) -> Said
 fn with_row(s: Said, row: usize, w: u32) -> Said
     ensures { λ r. ⌜ r ≡ naming.withFields s (naming.rowFields row) w ⌝ }
 {
-    let count = names::number(row, Column::Count);
+    let n = names::rows::numbers_of(row);
     let mut t = s;
     let mut i: u32 = 0;
-    while i < count {
-        let f = Found { row: row, index: i };
-        t = with_field(t, f, w);
+    while i < n.count {
+        t = with_field(t, n, Found { row: row, index: i }, w);
         i += 1;
     }
     t
 }
 
-// A row of the table, if it is a field of the register.
-fn with_own(s: Said, register: usize, row: usize, w: u32) -> Said
-    ensures { λ r. ⌜ r ≡ naming.withFields s (naming.ownFields register row) w ⌝ }
+fn all_fields(l: Line, offset: u32, w: u32) -> Said
+    ensures { λ r. ⌜ r ≡ naming.saidOf l (naming.fieldsOf offset) w ⌝ }
 {
-    if names::belongs(row, Group::Fields(register)) {
-        return with_row(s, row, w);
-    }
-    s
-}
-
-fn all_fields(l: Line, register: usize, w: u32) -> Said
-    ensures { λ r. ⌜ r ≡ naming.saidOf l (naming.fieldsOf register) w ⌝ }
-{
-    let mut t = Said { line: l, rest: w };
-    let mut row: usize = 52;
-    while row < 163 {
-        t = with_own(t, register, row, w);
-        row += 1;
+    let f = names::register_at(offset);
+    let x = names::rows_of(Group::Fields(f.row));
+    let mut t = Said {
+        line: l,
+        rest: w as usize,
+    };
+    let mut k: u32 = 0;
+    while k < x.count {
+        t = with_row(t, x.first as usize + k as usize, w);
+        k += 1;
     }
     t
 }
@@ -187,8 +143,7 @@ fn all_fields(l: Line, register: usize, w: u32) -> Said
 pub fn fields(l: Line, offset: u32, w: u32) -> Line
     ensures { λ r. ⌜ r ≡ lines.putAll l (naming.fieldsText offset w) ⌝ }
 {
-    let f = names::register_at(offset);
-    let t = all_fields(l, f.row, w);
+    let t = all_fields(l, offset, w);
     t.line
 }
 
@@ -214,8 +169,7 @@ fn written(l: Line, offset: u32, w: u32, full: bool) -> Line
     if full {
         return fields(number(l, w), offset, w);
     }
-    let f = names::register_at(offset);
-    let t = all_fields(l, f.row, w);
+    let t = all_fields(l, offset, w);
     if (t.rest == 0) & (w != 0) {
         return t.line;
     }

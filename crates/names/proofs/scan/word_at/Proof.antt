@@ -10,12 +10,9 @@ run-end-requires c κs = search needs
 byte-at-requires : tie.Need-byte-at-requires
 byte-at-requires c κs = search needs
 
-plain-requires : tie.Need-plain-requires
-plain-requires c κs = search needs
-
 returns : tie.Need-returns
 unfolding scan.wordAt
-returns c = simp (c .plain .ensures, eq-eqb _ _ (c .before .if1 .taken), ← (c .before .before .byte-at .ensures), ← (c .before .before .before .run-end .ensures))
+returns c = simp (eq-eqb _ _ (c .if1 .taken), ← (c .before .byte-at .ensures), ← (c .before .before .run-end .ensures))
 
 run-end-requires-2 : tie.Need-run-end-requires-2
 run-end-requires-2 c κs = search needs
@@ -39,7 +36,6 @@ word-at-spec =
     (tie.spec
     run-end-requires
     byte-at-requires
-    plain-requires
     returns
     run-end-requires-2
     run-end-requires-3
