@@ -1,15 +1,16 @@
--- The rows of the table of names, of 24 bytes each:
+-- The rows of the table of names, of 14 bytes each:
 --
---     bytes 0 to 7     the name; a percent sign stands for a number from 0 up to the count
---     bytes 8 to 10    the place: a register's offset (hex), a field's lowest bit, the number that a word stands for
---     bytes 12, 13     the size: bytes from one register to the next, the width of a field
---     bytes 15, 16     the count: how many there are, one behind the other
---     bytes 18 to 20   of a field how many hex digits its number has in print, 0 for a decimal number; of a register the row of its
---                      first field
---     bytes 22, 23     when a field is shown: 0 always, 1 while IDE is 0, 2 while it is 1; how many rows of fields a register has
-use mathlib.Core.Bool.{Bool, true, false, _&&_, _||_, not}
+--     bytes 0 to 7   the name; a percent sign stands for a number from 0 up to the count
+--     bytes 8, 9     the place: a register's offset, a field's lowest bit, the number that a word stands for
+--     byte 10        the size: bytes from one register to the next, the width of a field
+--     byte 11        the count: how many there are, one behind the other
+--     byte 12        of a field how many hex digits its number has in print, 0 for a decimal number; of a register the row of its
+--                    first field
+--     byte 13        of a field when it is shown: 0 always, 1 while IDE is 0, 2 while it is 1; of a register how many rows of fields
+--                    it has
+use mathlib.Core.Bool.{Bool, false, _&&_, _||_, not}
 use mathlib.Core.List.{List}
-use Prim.Native.Nat.{ℕ, zero, suc, _+_, _-_, _*_, _/_, _%_, _^_}
+use Prim.Native.Nat.{ℕ, zero, suc, _+_, _-_, _*_, _/_, _%_}
 use lib.Dec.{eqb, ltb, leb}
 use lib.ListN.{getD}
 use Rattle.model.specs.Base.{pick}
@@ -28,45 +29,37 @@ nowhere = record { row = none; index = 0 }
 
 -- ---- numbers
 
--- rows 29 to 51
-abbrev pub isRegister : ℕ → Bool
-isRegister row = leb 29 row && ltb row 52
-
--- the number from one byte of a row up to another; no digits are the number 0
-abbrev pub numberIn : ℕ → ℕ → ℕ → Bool → ℕ
-numberIn row i j hex = value (text row) i j hex % 2 ^ 32
-
 unfoldable pub numbers : ℕ → Numbers
 numbers row = record {
-  place = numberIn row 8 11 (isRegister row);
-  size = numberIn row 12 14 false;
-  count = numberIn row 15 17 false;
-  digits = numberIn row 18 21 false;
-  shown = numberIn row 22 24 false;
+  place = getD (text row) 8 0 * 256 + getD (text row) 9 0;
+  size = getD (text row) 10 0;
+  count = getD (text row) 11 0;
+  digits = getD (text row) 12 0;
+  shown = getD (text row) 13 0;
 }
 
 -- ---- by name
 
--- the word from place p on is a name t from letter k on, of which n letters are left
+-- the word from place p on is a name t from letter k on, of which n letters are left; a percent sign is the word's digits
 unfoldable pub sameOn : List ℕ → Word → List ℕ → ℕ → ℕ → ℕ → Bool
 sameOn s w t k p zero = eqb p (w .to)
 sameOn s w t k p (suc n) =
-    pick (eqb (getD t k 0) 32) (eqb p (w .to))
-    (pick (eqb (getD t k 0) 37) (pick (not (eqb p (w .digits)) || leb (w .rest) (w .digits)) false (sameOn s w t (k + 1) (w .rest) n))
-    (pick (leb (w .to) p || not (eqb (byteAt s p) (getD t k 0))) false (sameOn s w t (k + 1) (p + 1) n)))
+    pick (eqb (byteAt t k) 32) (eqb p (w .to))
+    (pick (eqb (byteAt t k) 37) (pick (not (eqb p (w .digits))) false (sameOn s w t (k + 1) (w .rest) n))
+    (pick (leb (w .to) p || not (eqb (byteAt s p) (byteAt t k))) false (sameOn s w t (k + 1) (p + 1) n)))
 
--- a word is the name of a row, with digits where the name has a percent sign
-unfoldable pub isNamed : List ℕ → Word → ℕ → Bool
-isNamed s w row = sameOn s w (text row) 0 (w .from) 8
+-- a word is a name, with digits where the name has a percent sign
+unfoldable pub isNamed : List ℕ → Word → List ℕ → Bool
+isNamed s w t = sameOn s w t 0 (w .from) 8
 
 -- the first of n rows from this one on that has the name
 unfoldable pub findOn : List ℕ → Word → ℕ → ℕ → ℕ
 findOn s w row zero = none
-findOn s w row (suc n) = pick (isNamed s w row) row (findOn s w (row + 1) n)
+findOn s w row (suc n) = pick (isNamed s w (text row)) row (findOn s w (row + 1) n)
 
--- the digits of a word are a number as it is written: with no zero in front
+-- a word has digits, and they are a number as it is written: with no zero in front
 abbrev pub isPlain : List ℕ → Word → Bool
-isPlain s w = eqb (w .rest - w .digits) 1 || not (eqb (byteAt s (w .digits)) 48)
+isPlain s w = eqb (w .rest - w .digits) 1 || (not (eqb (w .rest - w .digits) 0) && not (eqb (byteAt s (w .digits)) 48))
 
 -- a row by name, with the number in the word where there are several
 unfoldable pub indexed : List ℕ → Word → ℕ → Found

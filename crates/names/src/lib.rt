@@ -81,11 +81,13 @@ pub fn named(s: &[u8], w: Word, g: Group) -> Found
         return Found { row: row, index: 0 };
     }
     let i = value(s, w.digits, w.rest, false);
-    let plain = (distance(w.digits, w.rest) == 1) | (byte_at(s, w.digits) != 48);
+    let d = distance(w.digits, w.rest);
+    let plain = (d == 1) | ((d != 0) & (byte_at(s, w.digits) != b'0'));
     if plain & (i < n.count as u64) {
+        let index = i as u32;
         return Found {
             row: row,
-            index: i as u32,
+            index: index,
         };
     }
     Found {

@@ -1,15 +1,14 @@
-// The table of names: rows of 24 bytes, each with its name and some numbers.
+// The table of names: rows of 14 bytes, each with its name and some numbers.
 ghost use mathlib.Core.Path.{_≡_};
 ghost use Rattle.names.specs.Rows as rows;
 use super::scan::Word;
 use super::scan::byte_at;
-use super::scan::value;
 use super::table::text;
 
 // No row.
 pub const NONE: usize = 163;
 
-// The registers are the rows from one up to another; their place is a hex number.
+// The registers are the rows from one up to another.
 pub(crate) const REGISTERS: usize = 29;
 
 pub(crate) const FIELDS: usize = 52;
@@ -41,33 +40,31 @@ pub fn numbers_of(row: usize) -> Numbers
     ensures { λ r. ⌜ r ≡ rows.numbers row ⌝ }
 {
     let t = text(row);
-    let hex = (REGISTERS <= row) & (row < FIELDS);
     Numbers {
-        place: (value(&t, 8, 11, hex) % 4294967296) as u32,
-        size: (value(&t, 12, 14, false) % 4294967296) as u32,
-        count: (value(&t, 15, 17, false) % 4294967296) as u32,
-        digits: (value(&t, 18, 21, false) % 4294967296) as u32,
-        shown: (value(&t, 22, 24, false) % 4294967296) as u32,
+        place: t[8] as u32 * 256 + t[9] as u32,
+        size: t[10] as u32,
+        count: t[11] as u32,
+        digits: t[12] as u32,
+        shown: t[13] as u32,
     }
 }
 
 // ---- by name
 
-// Whether a word is the name of a row, with digits where the name has a percent sign.
-fn is_named(s: &[u8], w: Word, row: usize) -> bool
-    ensures { λ r. ⌜ r ≡ rows.isNamed (now (s .entry)) w row ⌝ }
+// Whether a word is a name, with digits where the name has a percent sign.
+fn is_named(s: &[u8], w: Word, name: &[u8]) -> bool
+    ensures { λ r. ⌜ r ≡ rows.isNamed (now (s .entry)) w (now (name .entry)) ⌝ }
 {
-    let name = text(row);
     let mut p = w.from;
     let mut k: usize = 0;
     while k < 8 {
-        let c = name[k];
+        let c = byte_at(name, k);
         k += 1;
         if c == b' ' {
             return p == w.to;
         }
         if c == b'%' {
-            if (p != w.digits) | (w.rest <= w.digits) {
+            if p != w.digits {
                 return false;
             }
             p = w.rest;
@@ -88,7 +85,8 @@ pub(crate) fn find(s: &[u8], w: Word, first: u32, count: u32) -> usize
     let mut k: u32 = 0;
     while k < count {
         let row = first as usize + k as usize;
-        if is_named(s, w, row) {
+        let t = text(row);
+        if is_named(s, w, &t) {
             return row;
         }
         k += 1;

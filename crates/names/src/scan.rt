@@ -8,7 +8,7 @@ pub enum Class {
     NoBlank,
     HexDigit,
     Digit,
-    NoDigit,
+    Letter,
 }
 
 // A word from one place up to another, with its first decimal digits from `digits` up to `rest`.
@@ -54,7 +54,7 @@ fn is_of(k: Class, c: u8) -> bool
         Class::NoBlank => !blank,
         Class::HexDigit => d < 16,
         Class::Digit => d < 10,
-        Class::NoDigit => 10 <= d,
+        Class::Letter => !blank & (10 <= d),
     }
 }
 
@@ -64,7 +64,7 @@ pub fn run_end(s: &[u8], from: usize, k: Class) -> usize
 {
     let mut i = from;
     while i < s.len() {
-        if !is_of(k, byte_at(s, i)) {
+        if !is_of(k, s[i]) {
             return i;
         }
         i += 1;
@@ -74,30 +74,22 @@ pub fn run_end(s: &[u8], from: usize, k: Class) -> usize
 
 // ---- numbers
 
-// A number with one digit more; 2^32 is no number of 32 bits.
-fn with_digit(a: u64, c: u8, hex: bool) -> u64
-    ensures { λ r. ⌜ r ≡ scan.withDigit a c hex ⌝ }
-{
-    let base = bits::pick_u8(hex, 16, 10);
-    let d = digit_of(c);
-    if (base <= d) | (4294967296 <= a) {
-        return 4294967296;
-    }
-    let b = a * (base as u64) + (d as u64);
-    if b < 4294967296 {
-        return b;
-    }
-    4294967296
-}
-
-// The number whose digits stand from one place up to another.
+// The number whose digits stand from one place up to another; 2^32 where it is no number of 32 bits.
 pub fn value(s: &[u8], from: usize, to: usize, hex: bool) -> u64
     ensures { λ r. ⌜ r ≡ scan.value (now (s .entry)) from to hex ⌝ }
 {
+    let base = bits::pick_u8(hex, 16, 10);
     let mut a: u64 = 0;
     let mut i = from;
     while i < to {
-        a = with_digit(a, byte_at(s, i), hex);
+        let d = digit_of(byte_at(s, i));
+        if base <= d {
+            return 4294967296;
+        }
+        a = a * (base as u64) + (d as u64);
+        if 4294967296 <= a {
+            return 4294967296;
+        }
         i += 1;
     }
     a
@@ -129,7 +121,7 @@ pub fn word_at(s: &[u8], place: usize) -> Word
         };
     }
     let to = run_end(s, from, Class::NoBlank);
-    let digits = bits::least(run_end(s, from, Class::NoDigit), to);
+    let digits = run_end(s, from, Class::Letter);
     Word {
         from: from,
         digits: digits,

@@ -1,18 +1,19 @@
-// The list of names, row by row; the same rows stand in specs/Listing.antt, what their columns are in specs/Rows.antt.
+// The list of names, row by row, as bytes; the same rows stand with their numbers in specs/Listing.antt, what their columns are in
+// specs/Rows.antt.
 ghost use mathlib.Core.Path.{_≡_};
 ghost use Rattle.names.specs.Listing as listing;
 
-// Row i of rows that stand one behind the other; where there is none a row of blanks.
-fn cut(s: &[u8], i: usize) -> [u8; 24]
+// Row i of rows that stand one behind the other; where there is none zeros.
+fn cut(s: &[u8], i: usize) -> [u8; 14]
     ensures { λ r. ⌜ r ≡ listing.cut (now (s .entry)) i ⌝ }
 {
-    let mut row = [b' '; 24];
-    if s.len() / 24 <= i {
+    let mut row = [0u8; 14];
+    if s.len() / 14 <= i {
         return row;
     }
-    let from = i * 24;
+    let from = i * 14;
     let mut k: usize = 0;
-    while k < 24 {
+    while k < 14 {
         row[k] = s[from + k];
         k += 1;
     }
@@ -20,192 +21,192 @@ fn cut(s: &[u8], i: usize) -> [u8; 24]
 }
 
 // The words of a lesson and the registers.
-fn general(i: usize) -> [u8; 24]
+fn general(i: usize) -> [u8; 14]
     ensures { λ r. ⌜ r ≡ listing.rowOf listing.general i ⌝ }
 {
     cut(
         b"\
-    reset   001 01 01 000 00\
-    read    002 01 01 000 00\
-    write   003 01 01 000 00\
-    idle    004 01 01 000 00\
-    bits    005 01 01 000 00\
-    activity006 01 01 000 00\
-    start   007 01 01 000 00\
-    end     008 01 01 000 00\
-    frame   009 01 01 000 00\
-    error   010 01 01 000 00\
-    expect  011 01 01 000 00\
-    repeat  012 01 01 000 00\
-    done    013 01 01 000 00\
-    bytes   014 01 01 000 00\
-    good    000 01 01 000 00\
-    stuff   001 01 01 000 00\
-    form    002 01 01 000 00\
-    ack     003 01 01 000 00\
-    bit1    004 01 01 000 00\
-    bit0    005 01 01 000 00\
-    crc     006 01 01 000 00\
-    lost    007 01 01 000 00\
-    TX      000 01 01 000 00\
-    FIFO0   001 01 01 000 00\
-    FIFO1   002 01 01 000 00\
-    SCE     003 01 01 000 00\
-    none    004 01 01 000 00\
-    refused 001 01 01 000 00\
-    lines   002 01 01 000 00\
-    MCR     000 04 01 052 10\
-    MSR     004 04 01 062 09\
-    TSR     008 04 01 071 22\
-    RF0R    00C 04 01 093 04\
-    RF1R    010 04 01 097 04\
-    IER     014 04 01 101 14\
-    ESR     018 04 01 115 06\
-    BTR     01C 04 01 121 06\
-    TI%R    180 16 03 127 05\
-    TDT%R   184 16 03 132 03\
-    TDL%R   188 16 03 135 04\
-    TDH%R   18C 16 03 139 04\
-    RI%R    1B0 16 02 143 04\
-    RDT%R   1B4 16 02 147 03\
-    RDL%R   1B8 16 02 150 04\
-    RDH%R   1BC 16 02 154 04\
-    FMR     200 04 01 158 01\
-    FM1R    204 04 01 159 01\
-    FS1R    20C 04 01 160 01\
-    FFA1R   214 04 01 161 01\
-    FA1R    21C 04 01 162 01\
-    F%R1    240 08 14 000 00\
-    F%R2    244 08 14 000 00\
+    reset   \x00\x01\x01\x01\x00\x00\
+    read    \x00\x02\x01\x01\x00\x00\
+    write   \x00\x03\x01\x01\x00\x00\
+    idle    \x00\x04\x01\x01\x00\x00\
+    bits    \x00\x05\x01\x01\x00\x00\
+    activity\x00\x06\x01\x01\x00\x00\
+    start   \x00\x07\x01\x01\x00\x00\
+    end     \x00\x08\x01\x01\x00\x00\
+    frame   \x00\x09\x01\x01\x00\x00\
+    error   \x00\x0A\x01\x01\x00\x00\
+    expect  \x00\x0B\x01\x01\x00\x00\
+    repeat  \x00\x0C\x01\x01\x00\x00\
+    done    \x00\x0D\x01\x01\x00\x00\
+    bytes   \x00\x0E\x01\x01\x00\x00\
+    good    \x00\x00\x01\x01\x00\x00\
+    stuff   \x00\x01\x01\x01\x00\x00\
+    form    \x00\x02\x01\x01\x00\x00\
+    ack     \x00\x03\x01\x01\x00\x00\
+    bit1    \x00\x04\x01\x01\x00\x00\
+    bit0    \x00\x05\x01\x01\x00\x00\
+    crc     \x00\x06\x01\x01\x00\x00\
+    lost    \x00\x07\x01\x01\x00\x00\
+    TX      \x00\x00\x01\x01\x00\x00\
+    FIFO0   \x00\x01\x01\x01\x00\x00\
+    FIFO1   \x00\x02\x01\x01\x00\x00\
+    SCE     \x00\x03\x01\x01\x00\x00\
+    none    \x00\x04\x01\x01\x00\x00\
+    refused \x00\x01\x01\x01\x00\x00\
+    lines   \x00\x02\x01\x01\x00\x00\
+    MCR     \x00\x00\x04\x01\x34\x0A\
+    MSR     \x00\x04\x04\x01\x3E\x09\
+    TSR     \x00\x08\x04\x01\x47\x16\
+    RF0R    \x00\x0C\x04\x01\x5D\x04\
+    RF1R    \x00\x10\x04\x01\x61\x04\
+    IER     \x00\x14\x04\x01\x65\x0E\
+    ESR     \x00\x18\x04\x01\x73\x06\
+    BTR     \x00\x1C\x04\x01\x79\x06\
+    TI%R    \x01\x80\x10\x03\x7F\x05\
+    TDT%R   \x01\x84\x10\x03\x84\x03\
+    TDL%R   \x01\x88\x10\x03\x87\x04\
+    TDH%R   \x01\x8C\x10\x03\x8B\x04\
+    RI%R    \x01\xB0\x10\x02\x8F\x04\
+    RDT%R   \x01\xB4\x10\x02\x93\x03\
+    RDL%R   \x01\xB8\x10\x02\x96\x04\
+    RDH%R   \x01\xBC\x10\x02\x9A\x04\
+    FMR     \x02\x00\x04\x01\x9E\x01\
+    FM1R    \x02\x04\x04\x01\x9F\x01\
+    FS1R    \x02\x0C\x04\x01\xA0\x01\
+    FFA1R   \x02\x14\x04\x01\xA1\x01\
+    FA1R    \x02\x1C\x04\x01\xA2\x01\
+    F%R1    \x02\x40\x08\x0E\x00\x00\
+    F%R2    \x02\x44\x08\x0E\x00\x00\
 ",
         i,
     )
 }
 
 // The fields of the registers.
-fn field(i: usize) -> [u8; 24]
+fn field(i: usize) -> [u8; 14]
     ensures { λ r. ⌜ r ≡ listing.rowOf listing.fields i ⌝ }
 {
     cut(
         b"\
-    INRQ    000 01 01 000 00\
-    SLEEP   001 01 01 000 00\
-    TXFP    002 01 01 000 00\
-    RFLM    003 01 01 000 00\
-    NART    004 01 01 000 00\
-    AWUM    005 01 01 000 00\
-    ABOM    006 01 01 000 00\
-    TTCM    007 01 01 000 00\
-    RESET   015 01 01 000 00\
-    DBF     016 01 01 000 00\
-    INAK    000 01 01 000 00\
-    SLAK    001 01 01 000 00\
-    ERRI    002 01 01 000 00\
-    WKUI    003 01 01 000 00\
-    SLAKI   004 01 01 000 00\
-    TXM     008 01 01 000 00\
-    RXM     009 01 01 000 00\
-    SAMP    010 01 01 000 00\
-    RX      011 01 01 000 00\
-    RQCP0   000 01 01 000 00\
-    TXOK0   001 01 01 000 00\
-    ALST0   002 01 01 000 00\
-    TERR0   003 01 01 000 00\
-    ABRQ0   007 01 01 000 00\
-    RQCP1   008 01 01 000 00\
-    TXOK1   009 01 01 000 00\
-    ALST1   010 01 01 000 00\
-    TERR1   011 01 01 000 00\
-    ABRQ1   015 01 01 000 00\
-    RQCP2   016 01 01 000 00\
-    TXOK2   017 01 01 000 00\
-    ALST2   018 01 01 000 00\
-    TERR2   019 01 01 000 00\
-    ABRQ2   023 01 01 000 00\
-    CODE    024 02 01 000 00\
-    TME0    026 01 01 000 00\
-    TME1    027 01 01 000 00\
-    TME2    028 01 01 000 00\
-    LOW0    029 01 01 000 00\
-    LOW1    030 01 01 000 00\
-    LOW2    031 01 01 000 00\
-    FMP0    000 02 01 000 00\
-    FULL0   003 01 01 000 00\
-    FOVR0   004 01 01 000 00\
-    RFOM0   005 01 01 000 00\
-    FMP1    000 02 01 000 00\
-    FULL1   003 01 01 000 00\
-    FOVR1   004 01 01 000 00\
-    RFOM1   005 01 01 000 00\
-    TMEIE   000 01 01 000 00\
-    FMPIE0  001 01 01 000 00\
-    FFIE0   002 01 01 000 00\
-    FOVIE0  003 01 01 000 00\
-    FMPIE1  004 01 01 000 00\
-    FFIE1   005 01 01 000 00\
-    FOVIE1  006 01 01 000 00\
-    EWGIE   008 01 01 000 00\
-    EPVIE   009 01 01 000 00\
-    BOFIE   010 01 01 000 00\
-    LECIE   011 01 01 000 00\
-    ERRIE   015 01 01 000 00\
-    WKUIE   016 01 01 000 00\
-    SLKIE   017 01 01 000 00\
-    EWGF    000 01 01 000 00\
-    EPVF    001 01 01 000 00\
-    BOFF    002 01 01 000 00\
-    LEC     004 03 01 000 00\
-    TEC     016 08 01 000 00\
-    REC     024 08 01 000 00\
-    BRP     000 10 01 000 00\
-    TS1     016 04 01 000 00\
-    TS2     020 03 01 000 00\
-    SJW     024 02 01 000 00\
-    LBKM    030 01 01 000 00\
-    SILM    031 01 01 000 00\
-    STID    021 11 01 003 01\
-    EXID    003 29 01 008 02\
-    IDE     002 01 01 000 00\
-    RTR     001 01 01 000 00\
-    TXRQ    000 01 01 000 00\
-    DLC     000 04 01 000 00\
-    TGT     008 01 01 000 00\
-    TIME    016 16 01 000 00\
-    DATA0   000 08 01 002 00\
-    DATA1   008 08 01 002 00\
-    DATA2   016 08 01 002 00\
-    DATA3   024 08 01 002 00\
-    DATA4   000 08 01 002 00\
-    DATA5   008 08 01 002 00\
-    DATA6   016 08 01 002 00\
-    DATA7   024 08 01 002 00\
-    STID    021 11 01 003 01\
-    EXID    003 29 01 008 02\
-    IDE     002 01 01 000 00\
-    RTR     001 01 01 000 00\
-    DLC     000 04 01 000 00\
-    FMI     008 08 01 000 00\
-    TIME    016 16 01 000 00\
-    DATA0   000 08 01 002 00\
-    DATA1   008 08 01 002 00\
-    DATA2   016 08 01 002 00\
-    DATA3   024 08 01 002 00\
-    DATA4   000 08 01 002 00\
-    DATA5   008 08 01 002 00\
-    DATA6   016 08 01 002 00\
-    DATA7   024 08 01 002 00\
-    FINIT   000 01 01 000 00\
-    FBM%    000 01 14 000 00\
-    FSC%    000 01 14 000 00\
-    FFA%    000 01 14 000 00\
-    FACT%   000 01 14 000 00\
+    INRQ    \x00\x00\x01\x01\x00\x00\
+    SLEEP   \x00\x01\x01\x01\x00\x00\
+    TXFP    \x00\x02\x01\x01\x00\x00\
+    RFLM    \x00\x03\x01\x01\x00\x00\
+    NART    \x00\x04\x01\x01\x00\x00\
+    AWUM    \x00\x05\x01\x01\x00\x00\
+    ABOM    \x00\x06\x01\x01\x00\x00\
+    TTCM    \x00\x07\x01\x01\x00\x00\
+    RESET   \x00\x0F\x01\x01\x00\x00\
+    DBF     \x00\x10\x01\x01\x00\x00\
+    INAK    \x00\x00\x01\x01\x00\x00\
+    SLAK    \x00\x01\x01\x01\x00\x00\
+    ERRI    \x00\x02\x01\x01\x00\x00\
+    WKUI    \x00\x03\x01\x01\x00\x00\
+    SLAKI   \x00\x04\x01\x01\x00\x00\
+    TXM     \x00\x08\x01\x01\x00\x00\
+    RXM     \x00\x09\x01\x01\x00\x00\
+    SAMP    \x00\x0A\x01\x01\x00\x00\
+    RX      \x00\x0B\x01\x01\x00\x00\
+    RQCP0   \x00\x00\x01\x01\x00\x00\
+    TXOK0   \x00\x01\x01\x01\x00\x00\
+    ALST0   \x00\x02\x01\x01\x00\x00\
+    TERR0   \x00\x03\x01\x01\x00\x00\
+    ABRQ0   \x00\x07\x01\x01\x00\x00\
+    RQCP1   \x00\x08\x01\x01\x00\x00\
+    TXOK1   \x00\x09\x01\x01\x00\x00\
+    ALST1   \x00\x0A\x01\x01\x00\x00\
+    TERR1   \x00\x0B\x01\x01\x00\x00\
+    ABRQ1   \x00\x0F\x01\x01\x00\x00\
+    RQCP2   \x00\x10\x01\x01\x00\x00\
+    TXOK2   \x00\x11\x01\x01\x00\x00\
+    ALST2   \x00\x12\x01\x01\x00\x00\
+    TERR2   \x00\x13\x01\x01\x00\x00\
+    ABRQ2   \x00\x17\x01\x01\x00\x00\
+    CODE    \x00\x18\x02\x01\x00\x00\
+    TME0    \x00\x1A\x01\x01\x00\x00\
+    TME1    \x00\x1B\x01\x01\x00\x00\
+    TME2    \x00\x1C\x01\x01\x00\x00\
+    LOW0    \x00\x1D\x01\x01\x00\x00\
+    LOW1    \x00\x1E\x01\x01\x00\x00\
+    LOW2    \x00\x1F\x01\x01\x00\x00\
+    FMP0    \x00\x00\x02\x01\x00\x00\
+    FULL0   \x00\x03\x01\x01\x00\x00\
+    FOVR0   \x00\x04\x01\x01\x00\x00\
+    RFOM0   \x00\x05\x01\x01\x00\x00\
+    FMP1    \x00\x00\x02\x01\x00\x00\
+    FULL1   \x00\x03\x01\x01\x00\x00\
+    FOVR1   \x00\x04\x01\x01\x00\x00\
+    RFOM1   \x00\x05\x01\x01\x00\x00\
+    TMEIE   \x00\x00\x01\x01\x00\x00\
+    FMPIE0  \x00\x01\x01\x01\x00\x00\
+    FFIE0   \x00\x02\x01\x01\x00\x00\
+    FOVIE0  \x00\x03\x01\x01\x00\x00\
+    FMPIE1  \x00\x04\x01\x01\x00\x00\
+    FFIE1   \x00\x05\x01\x01\x00\x00\
+    FOVIE1  \x00\x06\x01\x01\x00\x00\
+    EWGIE   \x00\x08\x01\x01\x00\x00\
+    EPVIE   \x00\x09\x01\x01\x00\x00\
+    BOFIE   \x00\x0A\x01\x01\x00\x00\
+    LECIE   \x00\x0B\x01\x01\x00\x00\
+    ERRIE   \x00\x0F\x01\x01\x00\x00\
+    WKUIE   \x00\x10\x01\x01\x00\x00\
+    SLKIE   \x00\x11\x01\x01\x00\x00\
+    EWGF    \x00\x00\x01\x01\x00\x00\
+    EPVF    \x00\x01\x01\x01\x00\x00\
+    BOFF    \x00\x02\x01\x01\x00\x00\
+    LEC     \x00\x04\x03\x01\x00\x00\
+    TEC     \x00\x10\x08\x01\x00\x00\
+    REC     \x00\x18\x08\x01\x00\x00\
+    BRP     \x00\x00\x0A\x01\x00\x00\
+    TS1     \x00\x10\x04\x01\x00\x00\
+    TS2     \x00\x14\x03\x01\x00\x00\
+    SJW     \x00\x18\x02\x01\x00\x00\
+    LBKM    \x00\x1E\x01\x01\x00\x00\
+    SILM    \x00\x1F\x01\x01\x00\x00\
+    STID    \x00\x15\x0B\x01\x03\x01\
+    EXID    \x00\x03\x1D\x01\x08\x02\
+    IDE     \x00\x02\x01\x01\x00\x00\
+    RTR     \x00\x01\x01\x01\x00\x00\
+    TXRQ    \x00\x00\x01\x01\x00\x00\
+    DLC     \x00\x00\x04\x01\x00\x00\
+    TGT     \x00\x08\x01\x01\x00\x00\
+    TIME    \x00\x10\x10\x01\x00\x00\
+    DATA0   \x00\x00\x08\x01\x02\x00\
+    DATA1   \x00\x08\x08\x01\x02\x00\
+    DATA2   \x00\x10\x08\x01\x02\x00\
+    DATA3   \x00\x18\x08\x01\x02\x00\
+    DATA4   \x00\x00\x08\x01\x02\x00\
+    DATA5   \x00\x08\x08\x01\x02\x00\
+    DATA6   \x00\x10\x08\x01\x02\x00\
+    DATA7   \x00\x18\x08\x01\x02\x00\
+    STID    \x00\x15\x0B\x01\x03\x01\
+    EXID    \x00\x03\x1D\x01\x08\x02\
+    IDE     \x00\x02\x01\x01\x00\x00\
+    RTR     \x00\x01\x01\x01\x00\x00\
+    DLC     \x00\x00\x04\x01\x00\x00\
+    FMI     \x00\x08\x08\x01\x00\x00\
+    TIME    \x00\x10\x10\x01\x00\x00\
+    DATA0   \x00\x00\x08\x01\x02\x00\
+    DATA1   \x00\x08\x08\x01\x02\x00\
+    DATA2   \x00\x10\x08\x01\x02\x00\
+    DATA3   \x00\x18\x08\x01\x02\x00\
+    DATA4   \x00\x00\x08\x01\x02\x00\
+    DATA5   \x00\x08\x08\x01\x02\x00\
+    DATA6   \x00\x10\x08\x01\x02\x00\
+    DATA7   \x00\x18\x08\x01\x02\x00\
+    FINIT   \x00\x00\x01\x01\x00\x00\
+    FBM%    \x00\x00\x01\x0E\x00\x00\
+    FSC%    \x00\x00\x01\x0E\x00\x00\
+    FFA%    \x00\x00\x01\x0E\x00\x00\
+    FACT%   \x00\x00\x01\x0E\x00\x00\
 ",
         i,
     )
 }
 
-// A row as bytes. Each part of the list has a function of its own, for a function stores its literals whole, whatever is asked.
-pub fn text(row: usize) -> [u8; 24]
+// A row as bytes. Each part of the list has a function of its own, for a function stores all of its literals, whatever is asked.
+pub fn text(row: usize) -> [u8; 14]
     ensures { λ r. ⌜ r ≡ listing.text row ⌝ }
 {
     if row < 52 {

@@ -1,4 +1,4 @@
-use mathlib.Core.Bool.{_||_, not}
+use mathlib.Core.Bool.{_||_, _&&_, not}
 use native.Mathlib.Omega.{arith}
 use lib.Dec.{eqb}
 use borrow.Author.Tests.{ltb-true, le-leb, lt-leb}
@@ -36,10 +36,10 @@ byte-at-requires c κs = search needs
 cast-if2 : tie.Need-cast-if2
 cast-if2 c = search needs
 
-cast-t14 : tie.Need-cast-t14
-cast-t14 c =
+cast-index : tie.Need-cast-index
+cast-index c =
     let n = c .before .before .before .before .before .before .before .numbers-of .result in
-    omega (arith, ltb-true (c .before .before .before .before .value .result) (n .count) (and-r (eqb (c .before .before .before .distance .result) 1 || not (eqb (c .before .before .byte-at .result) 48)) _ (c .if2 .taken)))
+    omega (arith, ltb-true (c .before .before .before .before .value .result) (n .count) (and-r (eqb (c .before .before .before .distance .result) 1 || (not (eqb (c .before .before .before .distance .result) 0) && not (eqb (c .before .before .byte-at .result) 48))) _ (c .if2 .taken)))
 
 returns-2 : tie.Need-returns-2
 unfolding tables.named rows.indexed
@@ -65,6 +65,6 @@ named-spec =
     distance-requires
     byte-at-requires
     cast-if2
-    cast-t14
+    cast-index
     returns-2
     returns-3)

@@ -1,6 +1,6 @@
+use mathlib.Core.Path.{_≡_, sym, _∙_}
+use Prim.Native.Nat.{_+_, _-_}
 use native.Mathlib.Omega.{arith}
-use mathlib.Core.Path.{_≡_, sym, ap, _∙_}
-use Prim.Native.Nat.{ℕ, _+_, _-_}
 use borrow.Author.Needs.{needs}
 use Rattle.names.specs.Rows as rows
 use Rattle.names.proofs.Loops.{find-on, find-stops, find-ended}
@@ -17,34 +17,43 @@ loop-holds : tie.Need-loop-holds Inv-loop μ-loop
 loop-holds c =
     let a = c .before .args in
     let e : a .first + 0 ≡ a .first = omega arith in
-    ap (λ (n : ℕ). rows.findOn (a .s .now) (a .w) n (a .count)) e
+    let f : a .count - 0 ≡ a .count = omega arith in
+    rw (e, f)
 
 cast-row : tie.Need-cast-row Inv-loop μ-loop
 cast-row c = search needs
 
 add-row : tie.Need-add-row Inv-loop μ-loop
-add-row c = search needs
+add-row c = omega arith
+
+text-requires : tie.Need-text-requires Inv-loop μ-loop
+text-requires c κs = search needs
+
+slice-aggregate-is-named : tie.Need-slice-aggregate-is-named Inv-loop μ-loop
+slice-aggregate-is-named c = search needs
 
 is-named-requires : tie.Need-is-named-requires Inv-loop μ-loop
 is-named-requires c κs = search needs
 
 returns : tie.Need-returns Inv-loop μ-loop
 returns c =
-    let a = c .before .before .before .before .before .args in
-    let l = c .before .before .before .loop in
-    sym (find-stops (a .s .now) (a .w) (a .first) (l .k) (a .count) (c .before .before .loop-test .taken) (sym (c .before .is-named .ensures) ∙ c .if1 .taken)) ∙ l .inv
+    let a = c .before .before .before .before .before .before .before .args in
+    let l = c .before .before .before .before .before .loop in
+    let n = rw (c .before .before .before .text .ensures) at (c .before .is-named .ensures) in
+    sym (find-stops (a .s .now) (a .w) (a .first) (l .k) (a .count) (c .before .before .before .before .loop-test .taken) (sym n ∙ c .if1 .taken)) ∙ l .inv
 
 add-k : tie.Need-add-k Inv-loop μ-loop
-add-k c = search needs
+add-k c = omega arith
 
 loop-less : tie.Need-loop-less Inv-loop μ-loop
-loop-less c = search needs
+loop-less c = omega arith
 
 loop-again : tie.Need-loop-again Inv-loop μ-loop
 loop-again c =
-    let a = c .before .before .before .before .before .args in
-    let l = c .before .before .before .loop in
-    sym (find-on (a .s .now) (a .w) (a .first) (l .k) (a .count) (c .before .before .loop-test .taken) (sym (c .before .is-named .ensures) ∙ c .if1 .left)) ∙ l .inv
+    let a = c .before .before .before .before .before .before .before .args in
+    let l = c .before .before .before .before .before .loop in
+    let n = rw (c .before .before .before .text .ensures) at (c .before .is-named .ensures) in
+    sym (find-on (a .s .now) (a .w) (a .first) (l .k) (a .count) (c .before .before .before .before .loop-test .taken) (sym n ∙ c .if1 .left)) ∙ l .inv
 
 returns-2 : tie.Need-returns-2 Inv-loop μ-loop
 returns-2 c =
@@ -61,6 +70,8 @@ find-spec =
     loop-holds
     cast-row
     add-row
+    text-requires
+    slice-aggregate-is-named
     is-named-requires
     returns
     add-k

@@ -1,3 +1,7 @@
+use native.Mathlib.Omega.{arith}
+use lib.ListN.{getD}
+use mir.Syntax.{w8}
+use mir.Val.{Fits}
 use Rattle.names.specs.Rows as rows
 use borrow.Author.Needs.{needs}
 use Rattle.names.proofs.rows.numbers_of.Statement.{statement}
@@ -6,73 +10,74 @@ use Rattle.names.proofs.rows.numbers_of.Tie as tie
 text-requires : tie.Need-text-requires
 text-requires c κs = search needs
 
-slice-aggregate-value : tie.Need-slice-aggregate-value
-slice-aggregate-value c = search needs
+array-read-t6 : tie.Need-array-read-t6
+array-read-t6 c = search needs
 
-value-requires : tie.Need-value-requires
-value-requires c κs = search needs
+cast-t7 : tie.Need-cast-t7
+cast-t7 c = search needs
 
-cast-t11 : tie.Need-cast-t11
-cast-t11 c = search needs
+mul-t8 : tie.Need-mul-t8
+mul-t8 c =
+    let h : Fits w8 (getD (c .text .result) 8 0) = search needs in
+    omega arith
 
-slice-aggregate-value-2 : tie.Need-slice-aggregate-value-2
-slice-aggregate-value-2 c = search needs
+array-read-t11 : tie.Need-array-read-t11
+array-read-t11 c = search needs
 
-value-requires-2 : tie.Need-value-requires-2
-value-requires-2 c κs = search needs
+cast-t12 : tie.Need-cast-t12
+cast-t12 c = search needs
 
-cast-t16 : tie.Need-cast-t16
-cast-t16 c = search needs
+add-t13 : tie.Need-add-t13
+add-t13 c =
+    let h : Fits w8 (getD (c .text .result) 8 0) = search needs in
+    let l : Fits w8 (getD (c .text .result) 9 0) = search needs in
+    omega arith
 
-slice-aggregate-value-3 : tie.Need-slice-aggregate-value-3
-slice-aggregate-value-3 c = search needs
+array-read-t16 : tie.Need-array-read-t16
+array-read-t16 c = search needs
 
-value-requires-3 : tie.Need-value-requires-3
-value-requires-3 c κs = search needs
+cast-t17 : tie.Need-cast-t17
+cast-t17 c = search needs
+
+array-read-t20 : tie.Need-array-read-t20
+array-read-t20 c = search needs
 
 cast-t21 : tie.Need-cast-t21
 cast-t21 c = search needs
 
-slice-aggregate-value-4 : tie.Need-slice-aggregate-value-4
-slice-aggregate-value-4 c = search needs
+array-read-t24 : tie.Need-array-read-t24
+array-read-t24 c = search needs
 
-value-requires-4 : tie.Need-value-requires-4
-value-requires-4 c κs = search needs
+cast-t25 : tie.Need-cast-t25
+cast-t25 c = search needs
 
-cast-t26 : tie.Need-cast-t26
-cast-t26 c = search needs
+array-read-t28 : tie.Need-array-read-t28
+array-read-t28 c = search needs
 
-slice-aggregate-value-5 : tie.Need-slice-aggregate-value-5
-slice-aggregate-value-5 c = search needs
-
-value-requires-5 : tie.Need-value-requires-5
-value-requires-5 c κs = search needs
-
-cast-t31 : tie.Need-cast-t31
-cast-t31 c = search needs
+cast-t29 : tie.Need-cast-t29
+cast-t29 c = search needs
 
 returns : tie.Need-returns
 unfolding rows.numbers
-returns c = simp (c .value5 .ensures, c .before .before .value4 .ensures, c .before .before .before .before .value3 .ensures, c .before .before .before .before .before .before .value2 .ensures, c .before .before .before .before .before .before .before .before .value .ensures, c .before .before .before .before .before .before .before .before .before .before .text .ensures)
+returns c = simp (c .text .ensures)
 
 pub numbers-of-spec : {M : Type 1} → statement M
 numbers-of-spec =
     tie.close
     (tie.spec
     text-requires
-    slice-aggregate-value
-    value-requires
-    cast-t11
-    slice-aggregate-value-2
-    value-requires-2
-    cast-t16
-    slice-aggregate-value-3
-    value-requires-3
+    array-read-t6
+    cast-t7
+    mul-t8
+    array-read-t11
+    cast-t12
+    add-t13
+    array-read-t16
+    cast-t17
+    array-read-t20
     cast-t21
-    slice-aggregate-value-4
-    value-requires-4
-    cast-t26
-    slice-aggregate-value-5
-    value-requires-5
-    cast-t31
+    array-read-t24
+    cast-t25
+    array-read-t28
+    cast-t29
     returns)

@@ -10,10 +10,10 @@ use Rattle.names.proofs.table.cut.Statement.{statement}
 use Rattle.names.proofs.table.cut.Tie as tie
 
 abbrev Inv-loop : tie.InvT-loop
-Inv-loop s i row₀ from k₀ row k = (k ≤ 24) × ((length row ≡ 24) × (take k row ≡ take k (drop from s)))
+Inv-loop s i row₀ from k₀ row k = (k ≤ 14) × ((length row ≡ 14) × (take k row ≡ take k (drop from s)))
 
 abbrev μ-loop : tie.MeasureT-loop
-μ-loop s i row₀ from k₀ row k = 24 - k
+μ-loop s i row₀ from k₀ row k = 14 - k
 
 returns : tie.Need-returns Inv-loop μ-loop
 unfolding listing.cut
@@ -44,14 +44,14 @@ loop-again : tie.Need-loop-again Inv-loop μ-loop
 loop-again c =
     let a = c .before .before .before .before .args in
     let l = c .before .before .loop in
-    (omega arith, (simp length-set (l .inv .1 .0), one-more (a .s .now) (l .row) (a .i * 24) (l .k) (c .before .loop-test .taken) (l .inv .1 .0) (omega arith) (l .inv .1 .1)))
+    (omega arith, (simp length-set (l .inv .1 .0), one-more (a .s .now) (l .row) (a .i * 14) (l .k) (c .before .loop-test .taken) (l .inv .1 .0) (omega arith) (l .inv .1 .1)))
 
 returns-2 : tie.Need-returns-2 Inv-loop μ-loop
 unfolding listing.cut
 returns-2 c =
     let a = c .before .before .before .args in
     let l = c .before .loop in
-    rw (lt-leb _ _ (c .before .before .if1 .left)) (all-cut (a .s .now) (l .row) (a .i * 24) (l .k) (c .loop-test .left) (l .inv .0) (l .inv .1 .0) (l .inv .1 .1))
+    rw (lt-leb _ _ (c .before .before .if1 .left)) (all-cut (a .s .now) (l .row) (a .i * 14) (l .k) (c .loop-test .left) (l .inv .0) (l .inv .1 .0) (l .inv .1 .1))
 
 pub cut-spec : {M : Type 1} → statement M
 cut-spec =

@@ -2,7 +2,7 @@
 use mathlib.Core.Path.{refl, _∙_}
 use borrow.Author.Needs.{needs}
 use Rattle.model.proofs.Choices.{Is}
-use Rattle.names.specs.Listing.{bytes, fields}
+use Rattle.names.specs.Listing.{bytes, row, fields}
 use Rattle.names.proofs.Cutting.{spelled, isFull, cut-rows}
 use Rattle.names.proofs.table.field.Statement.{statement}
 use Rattle.names.proofs.table.field.Tie as tie
@@ -14,11 +14,11 @@ cut-requires : tie.Need-cut-requires
 cut-requires c κs = search needs
 
 full : Is (isFull fields)
-unfolding isFull fields bytes
+unfolding isFull fields row bytes
 full = refl
 
 returns : tie.Need-returns
-unfolding spelled fields bytes
+unfolding spelled fields row bytes
 returns c = c .cut .ensures ∙ cut-rows fields full (c .before .before .args .i)
 
 pub field-spec : {M : Type 1} → statement M

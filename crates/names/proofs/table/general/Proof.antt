@@ -2,7 +2,7 @@
 use mathlib.Core.Path.{refl, _∙_}
 use borrow.Author.Needs.{needs}
 use Rattle.model.proofs.Choices.{Is}
-use Rattle.names.specs.Listing.{bytes, general}
+use Rattle.names.specs.Listing.{bytes, row, general}
 use Rattle.names.proofs.Cutting.{spelled, isFull, cut-rows}
 use Rattle.names.proofs.table.general.Statement.{statement}
 use Rattle.names.proofs.table.general.Tie as tie
@@ -14,11 +14,11 @@ cut-requires : tie.Need-cut-requires
 cut-requires c κs = search needs
 
 full : Is (isFull general)
-unfolding isFull general bytes
+unfolding isFull general row bytes
 full = refl
 
 returns : tie.Need-returns
-unfolding spelled general bytes
+unfolding spelled general row bytes
 returns c = c .cut .ensures ∙ cut-rows general full (c .before .before .args .i)
 
 pub general-spec : {M : Type 1} → statement M
