@@ -6,7 +6,7 @@ use Prim.Native.Nat.{ℕ, zero, suc, _+_, _-_, _*_, _^_, _<_, _≤_}
 use native.Mathlib.Omega.{arith}
 use lib.Dec.{eqb, leb}
 use lib.ListN.{length, getD}
-use borrow.Author.Tests.{le-leb, lt-leb, lt-ltb, le-ltb}
+use borrow.Author.Tests.{leb-true, leb-false, le-leb, lt-leb, lt-ltb, le-ltb, eq-eqb, ne-eqb}
 use Rattle.model.specs.Base.{pick}
 use Rattle.names.specs.Scan.{byteAt, digitOf, isOf, runOn, baseOf, withDigit, valueOn}
 use Rattle.names.specs.Listing.{text}
@@ -41,17 +41,24 @@ inside (x ∷ l) zero a b h = refl
 inside (x ∷ l) (suc i) a b h = inside l i a b (omega arith)
 
 module _ (a c d b : ℕ) (hex : Bool) (e : d ≡ digitOf c) (f : b ≡ baseOf hex) where
-  pub digit-none : b ≤ d → withDigit a c hex ≡ 2 ^ 32
+  digit-none : b ≤ d → withDigit a c hex ≡ 2 ^ 32
   unfolding withDigit
   digit-none h = simp (← e, ← f, le-leb b d h)
 
-  pub digit-over : d < b → a < 2 ^ 32 → 2 ^ 32 ≤ a * b + d → withDigit a c hex ≡ 2 ^ 32
+  digit-over : d < b → a < 2 ^ 32 → 2 ^ 32 ≤ a * b + d → withDigit a c hex ≡ 2 ^ 32
   unfolding withDigit
   digit-over h k l = simp (← e, ← f, lt-leb b d h, lt-leb (2 ^ 32) a k, le-ltb (a * b + d) (2 ^ 32) l)
 
   pub digit-more : d < b → a < 2 ^ 32 → a * b + d < 2 ^ 32 → withDigit a c hex ≡ a * b + d
   unfolding withDigit
   digit-more h k l = simp (← e, ← f, lt-leb b d h, lt-leb (2 ^ 32) a k, lt-ltb (a * b + d) (2 ^ 32) l)
+
+  pub digit-ends : (leb b d || leb (2 ^ 32) (a * b + d)) ≡ true → a < 2 ^ 32 → withDigit a c hex ≡ 2 ^ 32
+  digit-ends h k = go (leb b d) refl h
+    where
+      go : (x : Bool) → leb b d ≡ x → (x || leb (2 ^ 32) (a * b + d)) ≡ true → withDigit a c hex ≡ 2 ^ 32
+      go true l t = digit-none (leb-true b d l)
+      go false l t = digit-over (leb-false b d l) k (leb-true (2 ^ 32) (a * b + d) t)
 
 -- once there is no number, there stays none
 or-stuck : (b : Bool) (x : ℕ) → pick (b || leb (2 ^ 32) (2 ^ 32)) (2 ^ 32) x ≡ 2 ^ 32
@@ -80,12 +87,29 @@ module _ (s : List ℕ) (i j a : ℕ) (hex : Bool) where
   value-stops h e = value-on h ∙ rw e (value-stuck s hex (j - (i + 1)) (i + 1))
 
 module _ (s : List ℕ) (w : Word) (t : List ℕ) (k p j : ℕ) where
-  pub same-on : k < j → sameOn s w t k p (j - k) ≡
+  same-on : k < j → sameOn s w t k p (j - k) ≡
       pick (eqb (byteAt t k) 32) (eqb p (w .to))
       (pick (eqb (byteAt t k) 37) (pick (not (eqb p (w .digits))) false (sameOn s w t (k + 1) (w .rest) (j - (k + 1))))
       (pick (leb (w .to) p || not (eqb (byteAt s p) (byteAt t k))) false (sameOn s w t (k + 1) (p + 1) (j - (k + 1)))))
   unfolding sameOn
   same-on h = ap (sameOn s w t k p) (left k j h)
+
+  module _ (c : ℕ) (e : c ≡ byteAt t k) (h : k < j) where
+    pub same-blank : c ≡ 32 → sameOn s w t k p (j - k) ≡ eqb p (w .to)
+    same-blank f = same-on h ∙ simp (← e, eq-eqb c 32 f)
+
+    pub same-no-digits : (c ≡ 32 → ⊥) → c ≡ 37 → (p ≡ w .digits → ⊥) → sameOn s w t k p (j - k) ≡ false
+    same-no-digits f g d = same-on h ∙ simp (← e, ne-eqb c 32 f, eq-eqb c 37 g, ne-eqb p (w .digits) d)
+
+    pub same-digits : (c ≡ 32 → ⊥) → c ≡ 37 → p ≡ w .digits → sameOn s w t k p (j - k) ≡ sameOn s w t (k + 1) (w .rest) (j - (k + 1))
+    same-digits f g d = same-on h ∙ simp (← e, ne-eqb c 32 f, eq-eqb c 37 g, eq-eqb p (w .digits) d)
+
+    module _ (x : ℕ) (y : x ≡ byteAt s p) (f : c ≡ 32 → ⊥) (g : c ≡ 37 → ⊥) where
+      pub same-other : (leb (w .to) p || not (eqb x c)) ≡ true → sameOn s w t k p (j - k) ≡ false
+      same-other d = same-on h ∙ simp (← e, ← y, ne-eqb c 32 f, ne-eqb c 37 g, d)
+
+      pub same-letter : (leb (w .to) p || not (eqb x c)) ≡ false → sameOn s w t k p (j - k) ≡ sameOn s w t (k + 1) (p + 1) (j - (k + 1))
+      same-letter d = same-on h ∙ simp (← e, ← y, ne-eqb c 32 f, ne-eqb c 37 g, d)
 
   pub same-ended : j ≤ k → sameOn s w t k p (j - k) ≡ eqb p (w .to)
   unfolding sameOn

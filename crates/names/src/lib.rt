@@ -76,14 +76,14 @@ pub fn named(s: &[u8], w: Word, g: Group) -> Found
 {
     let x = rows_of(g);
     let row = find(s, w, x.first, x.count);
-    let n = numbers_of(row);
-    if n.count <= 1 {
+    let count = number(row, Column::Count);
+    if count <= 1 {
         return Found { row: row, index: 0 };
     }
     let i = value(s, w.digits, w.rest, false);
     let d = distance(w.digits, w.rest);
     let plain = (d == 1) | ((d != 0) & (byte_at(s, w.digits) != b'0'));
-    if plain & (i < n.count as u64) {
+    if plain & (i < count as u64) {
         let index = i as u32;
         return Found {
             row: row,

@@ -78,16 +78,13 @@ pub fn run_end(s: &[u8], from: usize, k: Class) -> usize
 pub fn value(s: &[u8], from: usize, to: usize, hex: bool) -> u64
     ensures { λ r. ⌜ r ≡ scan.value (now (s .entry)) from to hex ⌝ }
 {
-    let base = bits::pick_u8(hex, 16, 10);
+    let base = bits::pick_u8(hex, 16, 10) as u64;
     let mut a: u64 = 0;
     let mut i = from;
     while i < to {
-        let d = digit_of(byte_at(s, i));
-        if base <= d {
-            return 4294967296;
-        }
-        a = a * (base as u64) + (d as u64);
-        if 4294967296 <= a {
+        let d = digit_of(byte_at(s, i)) as u64;
+        a = a * base + d;
+        if (base <= d) | (4294967296 <= a) {
             return 4294967296;
         }
         i += 1;

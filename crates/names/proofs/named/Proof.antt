@@ -2,10 +2,10 @@ use mathlib.Core.Bool.{_||_, _&&_, not}
 use native.Mathlib.Omega.{arith}
 use lib.Dec.{eqb}
 use borrow.Author.Tests.{ltb-true, le-leb, lt-leb}
+use borrow.Author.Needs.{needs}
 use Rattle.model.proofs.Choices.{and-r}
 use Rattle.names.specs.Rows as rows
 use Rattle.names.specs.Table as tables
-use borrow.Author.Needs.{needs}
 use Rattle.names.proofs.named.Statement.{statement}
 use Rattle.names.proofs.named.Tie as tie
 
@@ -15,14 +15,14 @@ rows-of-requires c κs = search needs
 find-requires : tie.Need-find-requires
 find-requires c κs = search needs
 
-numbers-of-requires : tie.Need-numbers-of-requires
-numbers-of-requires c κs = search needs
+number-requires : tie.Need-number-requires
+number-requires c κs = search needs
 
 returns : tie.Need-returns
-unfolding tables.named rows.indexed
+unfolding tables.named tables.number rows.indexed
 returns c =
-    let f = rw (c .before .before .before .before .rows-of .ensures) at (c .before .before .before .find .ensures) in
-    simp (← f, ← (c .before .before .numbers-of .ensures), le-leb _ _ (c .if1 .taken))
+    let f = rw (c .before .before .before .rows-of .ensures) at (c .before .before .find .ensures) in
+    simp (← f, ← (c .before .number .ensures), le-leb _ _ (c .if1 .taken))
 
 value-requires : tie.Need-value-requires
 value-requires c κs = search needs
@@ -38,20 +38,20 @@ cast-if2 c = search needs
 
 cast-index : tie.Need-cast-index
 cast-index c =
-    let n = c .before .before .before .before .before .before .before .numbers-of .result in
-    omega (arith, ltb-true (c .before .before .before .before .value .result) (n .count) (and-r (eqb (c .before .before .before .distance .result) 1 || (not (eqb (c .before .before .before .distance .result) 0) && not (eqb (c .before .before .byte-at .result) 48))) _ (c .if2 .taken)))
+    let d = c .before .before .distance .result in
+    omega (arith, ltb-true (c .before .before .before .value .result) (c .before .before .before .before .before .number .result) (and-r (eqb d 1 || (not (eqb d 0) && not (eqb (c .before .byte-at .result) 48))) _ (c .if2 .taken)))
 
 returns-2 : tie.Need-returns-2
-unfolding tables.named rows.indexed
+unfolding tables.named tables.number rows.indexed
 returns-2 c =
-    let f = rw (c .before .before .before .before .before .before .before .before .before .rows-of .ensures) at (c .before .before .before .before .before .before .before .before .find .ensures) in
-    simp (← f, ← (c .before .before .before .before .before .before .before .numbers-of .ensures), lt-leb _ _ (c .before .before .before .before .before .if1 .left), ← (c .before .before .before .before .value .ensures), ← (c .before .before .before .distance .ensures), ← (c .before .before .byte-at .ensures), c .if2 .taken)
+    let f = rw (c .before .before .before .before .before .before .before .rows-of .ensures) at (c .before .before .before .before .before .before .find .ensures) in
+    simp (← f, ← (c .before .before .before .before .before .number .ensures), lt-leb _ _ (c .before .before .before .before .if1 .left), ← (c .before .before .before .value .ensures), ← (c .before .before .distance .ensures), ← (c .before .byte-at .ensures), c .if2 .taken)
 
 returns-3 : tie.Need-returns-3
-unfolding tables.named rows.indexed
+unfolding tables.named tables.number rows.indexed
 returns-3 c =
-    let f = rw (c .before .before .before .before .before .before .before .before .before .rows-of .ensures) at (c .before .before .before .before .before .before .before .before .find .ensures) in
-    simp (← f, ← (c .before .before .before .before .before .before .before .numbers-of .ensures), lt-leb _ _ (c .before .before .before .before .before .if1 .left), ← (c .before .before .before .before .value .ensures), ← (c .before .before .before .distance .ensures), ← (c .before .before .byte-at .ensures), c .if2 .left)
+    let f = rw (c .before .before .before .before .before .before .before .rows-of .ensures) at (c .before .before .before .before .before .before .find .ensures) in
+    simp (← f, ← (c .before .before .before .before .before .number .ensures), lt-leb _ _ (c .before .before .before .before .if1 .left), ← (c .before .before .before .value .ensures), ← (c .before .before .distance .ensures), ← (c .before .byte-at .ensures), c .if2 .left)
 
 pub named-spec : {M : Type 1} → statement M
 named-spec =
@@ -59,7 +59,7 @@ named-spec =
     (tie.spec
     rows-of-requires
     find-requires
-    numbers-of-requires
+    number-requires
     returns
     value-requires
     distance-requires

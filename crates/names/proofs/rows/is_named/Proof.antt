@@ -2,11 +2,11 @@ use mathlib.Core.Path.{_≡_, refl, sym, _∙_}
 use Prim.Native.Nat.{_-_}
 use native.Mathlib.Omega.{arith}
 use lib.Dec.{leb}
-use borrow.Author.Tests.{eq-eqb, ne-eqb, leb-false}
+use borrow.Author.Tests.{leb-false}
 use borrow.Author.Needs.{needs}
 use Rattle.model.proofs.Choices.{or-l}
 use Rattle.names.specs.Rows as rows
-use Rattle.names.proofs.Loops.{same-on, same-ended}
+use Rattle.names.proofs.Loops.{same-blank, same-no-digits, same-digits, same-other, same-letter, same-ended}
 use Rattle.names.proofs.rows.is_named.Statement.{statement}
 use Rattle.names.proofs.rows.is_named.Tie as tie
 
@@ -30,13 +30,13 @@ returns : tie.Need-returns Inv-loop μ-loop
 returns c =
     let a = c .before .before .before .before .before .before .before .args in
     let l = c .before .before .before .before .loop in
-    sym (same-on (a .s .now) (a .w) (a .name .now) (l .k) (l .p) 8 (c .before .before .before .loop-test .taken) ∙ simp (← (c .before .before .byte-at .ensures), eq-eqb _ _ (c .before .if1 .taken))) ∙ l .inv
+    sym (same-blank (a .s .now) (a .w) (a .name .now) (l .k) (l .p) 8 _ (c .before .before .byte-at .ensures) (c .before .before .before .loop-test .taken) (c .before .if1 .taken)) ∙ l .inv
 
 returns-2 : tie.Need-returns-2 Inv-loop μ-loop
 returns-2 c =
     let a = c .before .before .before .before .before .before .before .before .before .args in
     let l = c .before .before .before .before .before .before .loop in
-    sym (same-on (a .s .now) (a .w) (a .name .now) (l .k) (l .p) 8 (c .before .before .before .before .before .loop-test .taken) ∙ simp (← (c .before .before .before .before .byte-at .ensures), ne-eqb _ _ (c .before .before .before .if1 .left), eq-eqb _ _ (c .before .before .if2 .taken), ne-eqb _ _ (c .if3 .taken))) ∙ l .inv
+    sym (same-no-digits (a .s .now) (a .w) (a .name .now) (l .k) (l .p) 8 _ (c .before .before .before .before .byte-at .ensures) (c .before .before .before .before .before .loop-test .taken) (c .before .before .before .if1 .left) (c .before .before .if2 .taken) (c .if3 .taken)) ∙ l .inv
 
 loop-less : tie.Need-loop-less Inv-loop μ-loop
 loop-less c = omega arith
@@ -45,7 +45,7 @@ loop-again : tie.Need-loop-again Inv-loop μ-loop
 loop-again c =
     let a = c .before .before .before .before .before .before .before .before .before .args in
     let l = c .before .before .before .before .before .before .loop in
-    sym (same-on (a .s .now) (a .w) (a .name .now) (l .k) (l .p) 8 (c .before .before .before .before .before .loop-test .taken) ∙ simp (← (c .before .before .before .before .byte-at .ensures), ne-eqb _ _ (c .before .before .before .if1 .left), eq-eqb _ _ (c .before .before .if2 .taken), eq-eqb _ _ (c .if3 .left))) ∙ l .inv
+    sym (same-digits (a .s .now) (a .w) (a .name .now) (l .k) (l .p) 8 _ (c .before .before .before .before .byte-at .ensures) (c .before .before .before .before .before .loop-test .taken) (c .before .before .before .if1 .left) (c .before .before .if2 .taken) (c .if3 .left)) ∙ l .inv
 
 byte-at-requires-2 : tie.Need-byte-at-requires-2 Inv-loop μ-loop
 byte-at-requires-2 c κs = search needs
@@ -54,7 +54,7 @@ returns-3 : tie.Need-returns-3 Inv-loop μ-loop
 returns-3 c =
     let a = c .before .before .before .before .before .before .before .before .before .before .args in
     let l = c .before .before .before .before .before .before .before .loop in
-    sym (same-on (a .s .now) (a .w) (a .name .now) (l .k) (l .p) 8 (c .before .before .before .before .before .before .loop-test .taken) ∙ simp (← (c .before .before .before .before .before .byte-at .ensures), ne-eqb _ _ (c .before .before .before .before .if1 .left), ne-eqb _ _ (c .before .before .before .if2 .left), ← (c .before .byte-at2 .ensures), c .if4 .taken)) ∙ l .inv
+    sym (same-other (a .s .now) (a .w) (a .name .now) (l .k) (l .p) 8 _ (c .before .before .before .before .before .byte-at .ensures) (c .before .before .before .before .before .before .loop-test .taken) _ (c .before .byte-at2 .ensures) (c .before .before .before .before .if1 .left) (c .before .before .before .if2 .left) (c .if4 .taken)) ∙ l .inv
 
 add-p : tie.Need-add-p Inv-loop μ-loop
 add-p c =
@@ -69,7 +69,7 @@ loop-again-2 : tie.Need-loop-again-2 Inv-loop μ-loop
 loop-again-2 c =
     let a = c .before .before .before .before .before .before .before .before .before .before .args in
     let l = c .before .before .before .before .before .before .before .loop in
-    sym (same-on (a .s .now) (a .w) (a .name .now) (l .k) (l .p) 8 (c .before .before .before .before .before .before .loop-test .taken) ∙ simp (← (c .before .before .before .before .before .byte-at .ensures), ne-eqb _ _ (c .before .before .before .before .if1 .left), ne-eqb _ _ (c .before .before .before .if2 .left), ← (c .before .byte-at2 .ensures), c .if4 .left)) ∙ l .inv
+    sym (same-letter (a .s .now) (a .w) (a .name .now) (l .k) (l .p) 8 _ (c .before .before .before .before .before .byte-at .ensures) (c .before .before .before .before .before .before .loop-test .taken) _ (c .before .byte-at2 .ensures) (c .before .before .before .before .if1 .left) (c .before .before .before .if2 .left) (c .if4 .left)) ∙ l .inv
 
 returns-4 : tie.Need-returns-4 Inv-loop μ-loop
 returns-4 c =
