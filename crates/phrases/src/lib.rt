@@ -1,6 +1,7 @@
 // A step as a line of lesson text: docs/LESSONS.md, "From bytes to text". All names come from the table of crate names.
 ghost use mathlib.Core.Path.{_≡_};
-ghost use Prim.Native.Nat.{_-_};
+ghost use Prim.Native.Nat.{_%_, _^_};
+ghost use Rattle.names.specs.Rows as rows;
 ghost use Rattle.text.specs.Lines as lines;
 ghost use Rattle.phrases.specs.Frames as framing;
 ghost use Rattle.phrases.specs.Names as naming;
@@ -9,6 +10,8 @@ use model::Step;
 use names::Group;
 use names::rows::Found;
 use names::rows::Numbers;
+use names::rows::numbers_of;
+use names::scan::distance;
 use text::Line;
 use text::byte;
 use text::decimal;
@@ -29,7 +32,7 @@ pub fn name(l: Line, row: usize, index: u32) -> Line
     while k < 8 {
         let c = t[k];
         k += 1;
-        if c == b' ' {
+        if c <= b' ' {
             return m;
         }
         if c == b'%' {
@@ -74,33 +77,35 @@ fn amount(l: Line, size: u32, digits: u32, n: u32) -> Line
     hex(a, n, digits)
 }
 
-// The field at some bits of a word; 0 where they are none.
-fn value(place: u64, size: u32, w: u32) -> u32
-    ensures { λ r. ⌜ r ≡ naming.fieldValue place size w ⌝ }
+// The lowest bits of a number.
+fn lowest(n: u32, size: u32) -> u32
+    ensures { λ r. ⌜ r ≡ n % 2 ^ size ⌝ }
 {
-    if 32 <= place {
-        return 0;
-    }
-    let rest = w >> place as u32;
     if 32 <= size {
-        return rest;
+        return n;
     }
-    rest % (1 << size)
+    n % (1 << size)
 }
 
 // A field, where it isn't 0 and is shown.
 fn with_field(s: Said, n: Numbers, f: Found, w: u32) -> Said
-    ensures { λ r. ⌜ r ≡ naming.withField s n f w ⌝ }
+    requires { ⌜ n ≡ rows.numbers (f .row) ⌝ }
+    ensures { λ r. ⌜ r ≡ naming.withField s f w ⌝ }
 {
-    let place = n.place as u64 + n.size as u64 * f.index as u64;
-    let v = value(place, n.size, w);
-    let extended = w / 4 % 2 == 1;
-    let hidden = ((n.shown == 1) & extended) | ((n.shown == 2) & !extended);
-    if (v == 0) | hidden | (32 <= place) {
+    let step = n.size as u64 * f.index as u64;
+    let place = n.place as u64 + step;
+    if 32 <= place {
         return s;
     }
-    let placed = v << place as u32;
-    let rest = names::scan::distance(placed as usize, s.rest);
+    let low = place as u32;
+    let v = lowest(w >> low, n.size);
+    let extended = (w >> 2) % 2 == 1;
+    let hidden = ((n.shown == 1) & extended) | ((n.shown == 2) & !extended);
+    if (v == 0) | hidden {
+        return s;
+    }
+    let placed = v << low;
+    let rest = distance(placed as usize, s.rest);
     let l = s.line;
     let a = name(put(l, b" "), f.row, f.index);
     Said {
@@ -112,28 +117,33 @@ fn with_field(s: Said, n: Numbers, f: Found, w: u32) -> Said
 fn with_row(s: Said, row: usize, w: u32) -> Said
     ensures { λ r. ⌜ r ≡ naming.withFields s (naming.rowFields row) w ⌝ }
 {
-    let n = names::rows::numbers_of(row);
+    let n = numbers_of(row);
+    let count = n.count;
     let mut t = s;
     let mut i: u32 = 0;
-    while i < n.count {
-        t = with_field(t, n, Found { row: row, index: i }, w);
+    while i < count {
+        let f = Found { row: row, index: i };
+        t = with_field(t, n, f, w);
         i += 1;
     }
     t
 }
 
 fn all_fields(l: Line, offset: u32, w: u32) -> Said
-    ensures { λ r. ⌜ r ≡ naming.saidOf l (naming.fieldsOf offset) w ⌝ }
+    ensures { λ r. ⌜ r ≡ naming.saidOf l (naming.fieldsAt offset) w ⌝ }
 {
     let f = names::register_at(offset);
     let x = names::rows_of(Group::Fields(f.row));
+    let first = x.first;
+    let count = x.count;
     let mut t = Said {
         line: l,
         rest: w as usize,
     };
     let mut k: u32 = 0;
-    while k < x.count {
-        t = with_row(t, x.first as usize + k as usize, w);
+    while k < count {
+        let row = first as usize + k as usize;
+        t = with_row(t, row, w);
         k += 1;
     }
     t

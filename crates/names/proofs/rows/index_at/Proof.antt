@@ -5,7 +5,6 @@ use native.Mathlib.Omega.{arith}
 use lib.Dec.{eqb, ltb}
 use Rattle.model.proofs.Choices.{or-l, or-r}
 use borrow.Author.Tests.{ltb-false, eqb-false, eq-eqb, ne-eqb}
-use borrow.Author.Needs.{needs}
 use Rattle.names.proofs.rows.index_at.Statement.{statement}
 use Rattle.names.proofs.rows.index_at.Tie as tie
 
