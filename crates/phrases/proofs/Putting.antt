@@ -2,17 +2,19 @@
 use mathlib.Core.Bool.{Bool, true, false}
 use mathlib.Core.Path.{_≡_, refl, sym, ap, _∙_}
 use mathlib.Core.List.{List, [], _∷_, _++_}
-use Prim.Native.Nat.{ℕ, suc, _+_, _-_, _<_, _≤_}
+use Prim.Native.Nat.{ℕ, suc, _+_, _-_, _*_, _^_, _<_, _≤_}
+use native.Mathlib.Nat.{zero-mul}
 use native.Mathlib.Numerals.{add-one}
 use native.Mathlib.Omega.{arith}
 use lib.ListN.{length, getD, drop, drop-of-length-le}
 use lib.Seq.{drop-cons}
+use Rattle.names.specs.Table.{place}
 use Rattle.names.specs.declared.rows.Found.{Found}
-use borrow.Author.Tests.{le-leb, lt-leb}
+use borrow.Author.Tests.{le-leb, lt-leb, eq-eqb, ne-eqb}
 use Rattle.model.specs.Base.{pick}
 use Rattle.text.specs.Lines.{putAll, put-both}
 use Rattle.text.specs.declared.Line.{Line}
-use Rattle.phrases.specs.Names.{letterText, nameOn, nameText, fieldValue, placed, isHidden, numberOf, fieldText, rowOn, rowFields, fieldsOn, allText, restOf, withField, withFields}
+use Rattle.phrases.specs.Names.{letterText, nameOn, nameText, fieldValue, placed, numberOf, fieldText, rowOn, rowFields, fieldsOn, allText, restOf, withField, withFields}
 use Rattle.phrases.specs.Frames.{pairText, pairsText}
 use Rattle.phrases.specs.declared.Said.{Said}
 
@@ -128,12 +130,18 @@ all-said s (f ∷ l) w = all-said (withField s f w) l w ∙ ap (λ (x : Line). r
 
 -- ---- one field
 
-module _ (s : Said) (f : Found) (w : ℕ) where
-  pub hidden : isHidden f w ≡ true → s ≡ withField s f w
-  unfolding withField fieldText putAll
-  hidden h = rw h
+none-taken : (n : ℕ) → n - 0 ≡ n
+none-taken n = omega arith
 
-  pub shown : (l : Line) (n : ℕ) → isHidden f w ≡ false → l ≡ putAll (s .line) (32 ∷ (nameText (f .row) (f .index) ++ numberOf f (fieldValue f w)))
+module _ (s : Said) (f : Found) (w v : ℕ) (h : v ≡ fieldValue f w) where
+  pub hidden : v ≡ 0 → s ≡ withField s f w
+  unfolding withField fieldText putAll
+  hidden e =
+      let z : fieldValue f w ≡ 0 = sym h ∙ e in
+      let r : s .rest ≡ s .rest - placed f w = sym (ap (λ (x : ℕ). s .rest - x) (ap (λ (x : ℕ). x * 2 ^ place f) z ∙ zero-mul (2 ^ place f)) ∙ none-taken (s .rest)) in
+      rw (eq-eqb (fieldValue f w) 0 z) (ap (λ (n : ℕ). record { line = s .line; rest = n }) r)
+
+  pub shown : (l : Line) (n : ℕ) → (v ≡ 0 → ⊥) → l ≡ putAll (s .line) (32 ∷ (nameText (f .row) (f .index) ++ numberOf f (fieldValue f w)))
       → n ≡ s .rest - placed f w → record { line = l; rest = n } ≡ withField s f w
   unfolding withField fieldText
-  shown l n h e k = rw (h, e, k)
+  shown l n z e k = rw (ne-eqb (fieldValue f w) 0 (λ x. z (h ∙ x)), e, k)

@@ -1,17 +1,18 @@
 -- Fields in words of 32 bits.
-use mathlib.Core.Bool.{Bool, true, _||_}
+use mathlib.Core.Bool.{Bool, true, false, _||_}
 use mathlib.Core.Path.{_≡_, sym, ap, _∙_}
-use Prim.Native.Nat.{ℕ, _+_, _*_, _/_, _%_, _^_, _<_, _≤_}
-use native.Mathlib.Nat.{one-mul, zero-mod, div-eq-of-lt, mod-eq-of-lt, mod-le, lt-of-lt-of-le, lt-of-le-of-lt, le-trans, mul-le-mul-right}
+use Prim.Native.Nat.{ℕ, _*_, _/_, _%_, _^_, _<_, _≤_}
+use native.Mathlib.Nat.{one-mul, zero-mul, zero-mod, div-eq-of-lt, mod-eq-of-lt, mod-le, lt-of-lt-of-le, lt-of-le-of-lt, le-trans, mul-le-mul-right}
 use native.Mathlib.Omega.{arith}
+use lib.Dec.{leb}
 use lib.Pow.{pow-mono, pow-lt, split}
-use lib.Dec.{eqb}
-use Rattle.model.specs.Base.{bits}
+use borrow.Author.Tests.{leb-true}
+use Rattle.model.specs.Base.{pick, bits}
 use Rattle.names.specs.Rows.{numbers}
 use Rattle.names.specs.Table.{place}
 use Rattle.names.specs.declared.rows.Found.{Found}
 use Rattle.names.specs.declared.rows.Numbers.{Numbers}
-use Rattle.phrases.specs.Names.{fieldValue, placed, isOther, isHidden, amountText, numberOf}
+use Rattle.phrases.specs.Names.{fieldValue, placed, isOther, fieldOf, amountText}
 
 no-field : (i n w : ℕ) → 32 ≤ i → w < 2 ^ 32 → bits i n w ≡ 0
 no-field i n w h l = ap (λ (x : ℕ). x % 2 ^ n) (div-eq-of-lt (lt-of-lt-of-le l (pow-mono h))) ∙ zero-mod (2 ^ n)
@@ -26,25 +27,27 @@ placed-le i n w = le-trans (mul-le-mul-right (2 ^ i) (mod-le (w / 2 ^ i) (2 ^ n)
 field-placed : (i n w : ℕ) → w < 2 ^ 32 → bits i n w * 2 ^ i % 2 ^ 32 ≡ bits i n w * 2 ^ i
 field-placed i n w l = mod-eq-of-lt (lt-of-le-of-lt (placed-le i n w) l)
 
--- ---- a field by the numbers of its row
+-- ---- a field that is shown or not
 
-module _ (n : Numbers) (f : Found) (w : ℕ) (e : n ≡ numbers (f .row)) where
-  at : n .place + n .size * f .index ≡ place f
-  unfolding place
-  at = ap (λ (x : Numbers). x .place + x .size * f .index) e
+module _ (f : Found) (w : ℕ) where
+  nothing : fieldValue f w ≡ 0 → record { value = 0; placed = 0 } ≡ fieldOf f w
+  unfolding fieldOf
+  nothing z = sym (ap (λ (v : ℕ). record { value = v; placed = v * 2 ^ place f }) z ∙ ap (λ (x : ℕ). record { value = 0; placed = x }) (zero-mul (2 ^ place f)))
 
-  value-is : (v : ℕ) → v ≡ w / 2 ^ (n .place + n .size * f .index) % 2 ^ n .size → v ≡ fieldValue f w
-  value-is v h = h ∙ (ap (λ (i : ℕ). bits i (n .size) w) at ∙ ap (λ (x : Numbers). bits (place f) (x .size) w) e)
+  chosen : (x : Bool) → isOther (numbers (f .row) .shown) w ≡ x → fieldValue f w ≡ pick x 0 (bits (place f) (numbers (f .row) .size) w)
+  chosen x e = ap (λ (y : Bool). pick y 0 (bits (place f) (numbers (f .row) .size) w)) e
 
-  pub no-bits : 32 ≤ n .place + n .size * f .index → w < 2 ^ 32 → isHidden f w ≡ true
-  no-bits h l = ap (λ (v : ℕ). eqb v 0 || isOther (numbers (f .row) .shown) w) (no-field (place f) (numbers (f .row) .size) w (rw at at h) l)
+  pub not-told : (x : Bool) → isOther (numbers (f .row) .shown) w ≡ x → (x || leb 32 (place f)) ≡ true → w < 2 ^ 32 → record { value = 0; placed = 0 } ≡ fieldOf f w
+  not-told true e h l = nothing (chosen true e)
+  not-told false e h l = nothing (chosen false e ∙ no-field (place f) (numbers (f .row) .size) w (leb-true 32 (place f) h) l)
 
-  module _ (v : ℕ) where
-    pub as-said : (x : Bool) → v ≡ w / 2 ^ (n .place + n .size * f .index) % 2 ^ n .size → (eqb v 0 || isOther (n .shown) w) ≡ x → isHidden f w ≡ x
-    as-said x h k = ap (λ (u : ℕ). eqb u 0 || isOther (numbers (f .row) .shown) w) (sym (value-is v h)) ∙ (ap (λ (m : Numbers). eqb v 0 || isOther (m .shown) w) (sym e) ∙ k)
+  pub told : (v : ℕ) → isOther (numbers (f .row) .shown) w ≡ false → v ≡ bits (place f) (numbers (f .row) .size) w → w < 2 ^ 32
+      → record { value = v; placed = v * 2 ^ place f % 2 ^ 32 } ≡ fieldOf f w
+  unfolding fieldOf
+  told v e h l =
+      let u : v ≡ fieldValue f w = h ∙ sym (chosen false e) in
+      let p : v * 2 ^ place f % 2 ^ 32 ≡ placed f w = ap (λ (x : ℕ). x * 2 ^ place f % 2 ^ 32) h ∙ (field-placed (place f) (numbers (f .row) .size) w l ∙ ap (λ (x : ℕ). x * 2 ^ place f) (sym h ∙ u)) in
+      ap (λ (x : ℕ). record { value = x; placed = v * 2 ^ place f % 2 ^ 32 }) u ∙ ap (λ (x : ℕ). record { value = fieldValue f w; placed = x }) p
 
-    pub number-said : v ≡ w / 2 ^ (n .place + n .size * f .index) % 2 ^ n .size → amountText (n .size) (n .digits) v ≡ numberOf f (fieldValue f w)
-    number-said h = ap (λ (u : ℕ). amountText (n .size) (n .digits) u) (value-is v h) ∙ ap (λ (m : Numbers). amountText (m .size) (m .digits) (fieldValue f w)) e
-
-    pub placed-said : v ≡ w / 2 ^ (n .place + n .size * f .index) % 2 ^ n .size → w < 2 ^ 32 → v * 2 ^ (n .place + n .size * f .index) % 2 ^ 32 ≡ placed f w
-    placed-said h l = ap (λ (u : ℕ). u * 2 ^ (n .place + n .size * f .index) % 2 ^ 32) (value-is v h) ∙ (ap (λ (i : ℕ). fieldValue f w * 2 ^ i % 2 ^ 32) at ∙ field-placed (place f) (numbers (f .row) .size) w l)
+pub number-said : (n m : Numbers) (v u : ℕ) → v ≡ u → n ≡ m → amountText (n .size) (n .digits) v ≡ amountText (m .size) (m .digits) u
+number-said n m v u h e = ap (λ (x : ℕ). amountText (n .size) (n .digits) x) h ∙ ap (λ (x : Numbers). amountText (x .size) (x .digits) u) e

@@ -14,6 +14,7 @@ use Rattle.names.specs.declared.Group.the-variants.{Fields}
 use Rattle.text.specs.Lines.{putAll}
 use Rattle.text.specs.Numbers.{decimal, hex}
 use Rattle.text.specs.declared.Line.{Line}
+use Rattle.phrases.specs.declared.Field.{Field}
 use Rattle.phrases.specs.declared.Said.{Said}
 
 -- ---- names
@@ -43,19 +44,20 @@ registerText o = registerOf (registerAt o) o
 
 -- ---- a field
 
-abbrev pub fieldValue : Found → ℕ → ℕ
-fieldValue f w = bits (place f) (numbers (f .row) .size) w
-
--- the field alone, where it stands in the word
-abbrev pub placed : Found → ℕ → ℕ
-placed f w = fieldValue f w * 2 ^ place f
-
 -- STID is not shown while IDE is 1, EXID not while it is 0
 abbrev pub isOther : ℕ → ℕ → Bool
 isOther shown w = (eqb shown 1 && bit 2 w) || (eqb shown 2 && not (bit 2 w))
 
-abbrev pub isHidden : Found → ℕ → Bool
-isHidden f w = eqb (fieldValue f w) 0 || isOther (numbers (f .row) .shown) w
+-- the number of a field; 0 where it is not shown
+abbrev pub fieldValue : Found → ℕ → ℕ
+fieldValue f w = pick (isOther (numbers (f .row) .shown) w) 0 (bits (place f) (numbers (f .row) .size) w)
+
+-- where it stands in the word
+abbrev pub placed : Found → ℕ → ℕ
+placed f w = fieldValue f w * 2 ^ place f
+
+unfoldable pub fieldOf : Found → ℕ → Field
+fieldOf f w = record { value = fieldValue f w; placed = placed f w }
 
 -- a field of one bit has no number behind its name
 unfoldable pub amountText : ℕ → ℕ → ℕ → List ℕ
@@ -64,8 +66,9 @@ amountText size d n = pick (eqb size 1) [] (32 ∷ pick (eqb d 0) (decimal n) (h
 abbrev pub numberOf : Found → ℕ → List ℕ
 numberOf f n = amountText (numbers (f .row) .size) (numbers (f .row) .digits) n
 
+-- a field that is 0 is not told
 unfoldable pub fieldText : Found → ℕ → List ℕ
-fieldText f w = pick (isHidden f w) [] (32 ∷ (nameText (f .row) (f .index) ++ numberOf f (fieldValue f w)))
+fieldText f w = pick (eqb (fieldValue f w) 0) [] (32 ∷ (nameText (f .row) (f .index) ++ numberOf f (fieldValue f w)))
 
 -- ---- the fields of a register
 
@@ -99,7 +102,7 @@ allText (f ∷ l) w = fieldText f w ++ allText l w
 -- what fields leave of a word, where they are taken out of r
 unfoldable pub restOf : List Found → ℕ → ℕ → ℕ
 restOf [] w r = r
-restOf (f ∷ l) w r = restOf l w (pick (isHidden f w) r (r - placed f w))
+restOf (f ∷ l) w r = restOf l w (r - placed f w)
 
 unfoldable pub fieldsText : ℕ → ℕ → List ℕ
 fieldsText o w = allText (fieldsAt o) w
@@ -111,7 +114,7 @@ isSaid o w = eqb (restOf (fieldsAt o) w w) 0
 -- ---- a line to which fields are added, with what they leave of the word
 
 unfoldable pub withField : Said → Found → ℕ → Said
-withField s f w = record { line = putAll (s .line) (fieldText f w); rest = pick (isHidden f w) (s .rest) (s .rest - placed f w) }
+withField s f w = record { line = putAll (s .line) (fieldText f w); rest = s .rest - placed f w }
 
 unfoldable pub withFields : Said → List Found → ℕ → Said
 withFields s [] w = s

@@ -87,29 +87,47 @@ fn lowest(n: u32, size: u32) -> u32
     n % (1 << size)
 }
 
-// A field, where it isn't 0 and is shown.
+// What is shown of a field: its number, and that number where it stands in the word. Both are 0 where nothing is.
+struct Field {
+    value: u32,
+    placed: u32,
+}
+
+fn field_of(f: Found, size: u32, shown: u32, w: u32) -> Field
+    requires { ⌜ (size ≡ rows.numbers (f .row) .size) × (shown ≡ rows.numbers (f .row) .shown) ⌝ }
+    ensures { λ r. ⌜ r ≡ naming.fieldOf f w ⌝ }
+{
+    let place = names::place(f);
+    let extended = (w >> 2) % 2 == 1;
+    let other = ((shown == 1) & extended) | ((shown == 2) & !extended);
+    if other | (32 <= place) {
+        return Field {
+            value: 0,
+            placed: 0,
+        };
+    }
+    let low = place as u32;
+    let v = lowest(w >> low, size);
+    let placed = v << low;
+    Field {
+        value: v,
+        placed: placed,
+    }
+}
+
 fn with_field(s: Said, n: Numbers, f: Found, w: u32) -> Said
     requires { ⌜ n ≡ rows.numbers (f .row) ⌝ }
     ensures { λ r. ⌜ r ≡ naming.withField s f w ⌝ }
 {
-    let step = n.size as u64 * f.index as u64;
-    let place = n.place as u64 + step;
-    if 32 <= place {
+    let x = field_of(f, n.size, n.shown, w);
+    if x.value == 0 {
         return s;
     }
-    let low = place as u32;
-    let v = lowest(w >> low, n.size);
-    let extended = (w >> 2) % 2 == 1;
-    let hidden = ((n.shown == 1) & extended) | ((n.shown == 2) & !extended);
-    if (v == 0) | hidden {
-        return s;
-    }
-    let placed = v << low;
-    let rest = distance(placed as usize, s.rest);
+    let rest = distance(x.placed as usize, s.rest);
     let l = s.line;
     let a = name(put(l, b" "), f.row, f.index);
     Said {
-        line: amount(a, n.size, n.digits, v),
+        line: amount(a, n.size, n.digits, x.value),
         rest: rest,
     }
 }
