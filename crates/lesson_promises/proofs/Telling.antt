@@ -2,9 +2,8 @@
 use mathlib.Core.Path.{refl}
 use Rattle.model.specs.Records.{fieldBytes, bytesOf}
 use Rattle.model.specs.Reception.{malformed, dataBytes, bytesKept}
-use Rattle.names.specs.Table as tables
 use Rattle.text.specs.Numbers.{digits, decimalOn}
-use Rattle.phrases.specs.Names.{letterText, nameOn, nameText, registerText, isShown, amountText, fieldText, rowOn, rowFields, ownFields, fieldsOn, fieldsOf, allText, restOf, fieldsText, isSaid}
+use Rattle.phrases.specs.Names.{letterText, nameOn, nameText, registerText, amountText, fieldText, rowOn, rowFields, fieldsOn, fieldsOf, allText, restOf, fieldsText, isSaid}
 use Rattle.phrases.specs.Frames.{pairText, pairsText, bytesText, isWorded, identifierText, remoteText, dataText, payloadText, codeText, wordedText, remarkText, unwordedText, frameText}
 use Rattle.phrases.specs.Steps.{writtenText, writeText, resultText, errorText, stepText}
 use Rattle.lesson_promises.specs.Telling.{Steps, Registers, Writes, Fields, Frames, Bytes, Samples}
@@ -12,7 +11,7 @@ use Rattle.lesson_promises.proofs.ToldNames.{lookups}
 
 -- what a text unfolds to
 unfoldable texts : Unit {0}
-unfolding lookups tables.letter digits decimalOn letterText nameOn nameText registerText isShown amountText fieldText rowOn rowFields ownFields fieldsOn fieldsOf allText restOf fieldsText isSaid writtenText writeText resultText errorText stepText pairText pairsText bytesText isWorded identifierText remoteText dataText payloadText codeText wordedText remarkText unwordedText frameText malformed dataBytes bytesKept fieldBytes bytesOf
+unfolding lookups digits decimalOn letterText nameOn nameText registerText amountText fieldText rowOn rowFields fieldsOn fieldsOf allText restOf fieldsText isSaid writtenText writeText resultText errorText stepText pairText pairsText bytesText isWorded identifierText remoteText dataText payloadText codeText wordedText remarkText unwordedText frameText malformed dataBytes bytesKept fieldBytes bytesOf
 texts = tt
 
 steps : Steps

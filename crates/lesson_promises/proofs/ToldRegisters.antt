@@ -15,9 +15,8 @@ use Rattle.model.specs.Registers.{isAbsent, controlRegister, mailboxRegister, o
 use Rattle.model.specs.declared.Register.the-variants.{Absent}
 use Rattle.model.proofs.Choices.{Is, and-l, and-r, pick-cases}
 use Rattle.model.proofs.Bounded.{allBelow, each-below}
-use Rattle.names.specs.Rows as rows
 use Rattle.names.specs.Rows.{nowhere, indexIn, indexAt, registerOn}
-use Rattle.names.specs.Table.{place, registerAt}
+use Rattle.names.specs.Table.{number, place, registerAt}
 use Rattle.lesson_promises.specs.Told.{lookedUp, registerName, RegisterNames}
 use Rattle.names.specs.declared.rows.Found.{Found}
 use Rattle.names.specs.declared.rows.Column.{Column}
@@ -45,19 +44,19 @@ size′ k = getD sizes k 0
 abbrev count′ : ℕ → ℕ
 count′ k = getD counts k 0
 
-all-known : (c : Column) (l : List ℕ) → Is (allBelow (λ (k : ℕ). eqb (rows.number (k + 29) c) (getD l k 0)) 23)
-    → (k : ℕ) → k < 23 → rows.number (k + 29) c ≡ getD l k 0
-all-known c l t k h = eqb-true (rows.number (k + 29) c) (getD l k 0) (each-below (λ (k : ℕ). eqb (rows.number (k + 29) c) (getD l k 0)) 23 t k h)
+all-known : (c : Column) (l : List ℕ) → Is (allBelow (λ (k : ℕ). eqb (number (k + 29) c) (getD l k 0)) 23)
+    → (k : ℕ) → k < 23 → number (k + 29) c ≡ getD l k 0
+all-known c l t k h = eqb-true (number (k + 29) c) (getD l k 0) (each-below (λ (k : ℕ). eqb (number (k + 29) c) (getD l k 0)) 23 t k h)
 
-known-place : (k : ℕ) → k < 23 → rows.number (k + 29) Place ≡ place′ k
+known-place : (k : ℕ) → k < 23 → number (k + 29) Place ≡ place′ k
 unfolding lookups allBelow
 known-place = all-known Place places refl
 
-known-size : (k : ℕ) → k < 23 → rows.number (k + 29) Size ≡ size′ k
+known-size : (k : ℕ) → k < 23 → number (k + 29) Size ≡ size′ k
 unfolding lookups allBelow
 known-size = all-known Size sizes refl
 
-known-count : (k : ℕ) → k < 23 → rows.number (k + 29) Count ≡ count′ k
+known-count : (k : ℕ) → k < 23 → number (k + 29) Count ≡ count′ k
 unfolding lookups allBelow
 known-count = all-known Count counts refl
 
@@ -79,14 +78,14 @@ along o k (suc n) =
     (along o (k + 1) n)
 
 walked : (o k n : ℕ) → k + n ≤ 23 → registerOn o (k + 29) n ≡ along o k n
-unfolding registerOn indexAt along
+unfolding registerOn indexAt along number
 walked o k zero h = refl
 walked o k (suc n) h =
     let e : k + 29 + 1 ≡ k + 1 + 29 = omega arith in
     rw (known-place k (omega arith), known-size k (omega arith), known-count k (omega arith), e, walked o (k + 1) n (omega arith))
 
 register-along : (o : ℕ) → registerAt o ≡ along o 0 23
-unfolding registerAt rows.registerAt
+unfolding registerAt
 register-along o = walked o 0 23 (omega arith)
 
 -- ---- from 0x300 on

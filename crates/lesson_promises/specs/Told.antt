@@ -18,9 +18,10 @@ use Rattle.model.specs.declared.Register.{Register}
 use Rattle.model.specs.declared.Register.the-variants.{Mcr, Msr, Tsr, Rfr, Ier, Esr, Btr, Ti, Tdt, Tdl, Tdh, Ri, Rdt, Rdl, Rdh, Fmr, Fm1r, Fs1r, Ffa1r, Fa1r, R1, R2, Absent}
 use Rattle.names.specs.Scan.{wordAt, value}
 use Rattle.names.specs.Rows.{none}
-use Rattle.names.specs.Table.{bytes, named, registerAt, belongs, number, place}
+use Rattle.names.specs.Table.{bytes, named, registerAt, rowsOf, number, place}
 use Rattle.names.specs.declared.rows.Found.{Found}
 use Rattle.names.specs.declared.rows.Column.the-variants.{Place, Size, Count, Shown}
+use Rattle.names.specs.declared.Span.{Span}
 use Rattle.names.specs.declared.Group.{Group}
 use Rattle.names.specs.declared.Group.the-variants.{Registers, Fields, Steps, Results, Lines, Expectations}
 
@@ -96,15 +97,17 @@ overlap = 2 ^ 32
 unfoldable pub besides : ℕ → ℕ → ℕ → ℕ
 besides u p w = pick (ltb u overlap && eqb (u / 2 ^ p % 2 ^ w) 0) (u + (2 ^ w - 1) * 2 ^ p) overlap
 
--- n rows from one on: the bits of those that are fields of register r, but for the ones that are shown only where the digit is h
-unfoldable pub bitsOn : ℕ → ℕ → ℕ → ℕ → ℕ → ℕ
-bitsOn r h row zero u = u
-bitsOn r h row (suc n) u =
-    bitsOn r h (row + 1) n
-    (pick (belongs row (Fields r) && not (eqb (number row Shown) h)) (besides u (number row Place) (number row Size * number row Count)) u)
+-- n rows from one on: the bits of these fields, but for the ones that are shown only where the digit is h
+unfoldable pub bitsOn : ℕ → ℕ → ℕ → ℕ → ℕ
+bitsOn h row zero u = u
+bitsOn h row (suc n) u =
+    bitsOn h (row + 1) n (pick (not (eqb (number row Shown) h)) (besides u (number row Place) (number row Size * number row Count)) u)
+
+abbrev pub spanBits : Span → ℕ → ℕ
+spanBits x h = bitsOn h (x .first) (x .count) 0
 
 unfoldable pub fieldBits : String → ℕ → ℕ
-fieldBits r h = bitsOn (rowOf r) h 0 none 0
+fieldBits r h = spanBits (rowsOf (Fields (rowOf r))) h
 
 -- a register and its bits that are not reserved
 pub record Bits : Type 0 where

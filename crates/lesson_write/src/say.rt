@@ -75,15 +75,15 @@ fn found(l: Line, s: &[u8], place: usize, rule: u32) -> Line {
 
 // The names of a group, with commas between them; of a name with a number the first and the last.
 fn listed(l: Line, g: Group) -> Line {
+    let rows = names::rows_of(g);
     let mut m = l;
-    for row in 0..NONE {
-        if names::belongs(row, g) {
-            let a = said(m, b"|, ", (l.at < m.at) as u32, 0);
-            m = phrases::name(a, row, 0);
-            let n = names::number(row, Column::Count);
-            if 1 < n {
-                m = phrases::name(put(m, b" to "), row, n - 1);
-            }
+    for k in 0..rows.count {
+        let row = rows.first as usize + k as usize;
+        let a = said(m, b"|, ", (l.at < m.at) as u32, 0);
+        m = phrases::name(a, row, 0);
+        let n = names::number(row, Column::Count);
+        if 1 < n {
+            m = phrases::name(put(m, b" to "), row, n - 1);
         }
     }
     m

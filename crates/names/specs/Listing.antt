@@ -1,189 +1,232 @@
 -- The one list of names, row by row: the words of a lesson, the manual's registers and fields. What a row's columns are stands in
 -- Rows.antt.
-use mathlib.Core.List.{List, [], _∷_}
-use Prim.Native.Nat.{ℕ, _/_, _%_}
+use mathlib.Core.List.{List, [], _∷_, _++_}
+use Prim.Native.Nat.{ℕ, zero, suc, _*_, _-_, _/_, _%_}
 use Prim.Native.Char.{code}
 use Prim.Native.String.{String, [] as ended, _∷_ as _then_}
-use lib.ListN.{getD}
-use Rattle.names.specs.Scan.{byteAt}
+use lib.Dec.{ltb, leb}
+use lib.ListN.{length, take, drop, replicate}
+use Rattle.model.specs.Base.{pick}
 
 -- a text as bytes
 unfoldable pub bytes : String → List ℕ
 bytes ended = []
 bytes (c then s) = code c ∷ bytes s
 
-unfoldable pub rows : List String
-rows =
-    -- steps, rows 0 to 13: tag of the record, and what is no step
-    "step    reset   001 01 01 0 0" ∷
-    "step    read    002 01 01 0 0" ∷
-    "step    write   003 01 01 0 0" ∷
-    "step    idle    004 01 01 0 0" ∷
-    "step    bits    005 01 01 0 0" ∷
-    "step    activity006 01 01 0 0" ∷
-    "step    start   007 01 01 0 0" ∷
-    "step    end     008 01 01 0 0" ∷
-    "step    frame   009 01 01 0 0" ∷
-    "step    error   010 01 01 0 0" ∷
-    "step    expect  011 01 01 0 0" ∷
-    "step    repeat  012 01 01 0 0" ∷
-    "step    done    013 01 01 0 0" ∷
-    "step    bytes   014 01 01 0 0" ∷
-    -- results of an own frame, rows 14 to 21
-    "end     good    000 01 01 0 0" ∷
-    "end     stuff   001 01 01 0 0" ∷
-    "end     form    002 01 01 0 0" ∷
-    "end     ack     003 01 01 0 0" ∷
-    "end     bit1    004 01 01 0 0" ∷
-    "end     bit0    005 01 01 0 0" ∷
-    "end     crc     006 01 01 0 0" ∷
-    "end     lost    007 01 01 0 0" ∷
-    -- interrupt lines, rows 22 to 26: bit
-    "lines   TX      000 01 01 0 0" ∷
-    "lines   FIFO0   001 01 01 0 0" ∷
-    "lines   FIFO1   002 01 01 0 0" ∷
-    "lines   SCE     003 01 01 0 0" ∷
-    "lines   none    004 01 01 0 0" ∷
-    -- what is expected, rows 27 and 28
-    "expect  refused 001 01 01 0 0" ∷
-    "expect  lines   002 01 01 0 0" ∷
-    -- registers, rows 29 to 51: offset, bytes from one to the next, how many
-    "bxCAN   MCR     000 04 01 0 0" ∷
-    "bxCAN   MSR     004 04 01 0 0" ∷
-    "bxCAN   TSR     008 04 01 0 0" ∷
-    "bxCAN   RF0R    00C 04 01 0 0" ∷
-    "bxCAN   RF1R    010 04 01 0 0" ∷
-    "bxCAN   IER     014 04 01 0 0" ∷
-    "bxCAN   ESR     018 04 01 0 0" ∷
-    "bxCAN   BTR     01C 04 01 0 0" ∷
-    "bxCAN   TI%R    180 16 03 0 0" ∷
-    "bxCAN   TDT%R   184 16 03 0 0" ∷
-    "bxCAN   TDL%R   188 16 03 0 0" ∷
-    "bxCAN   TDH%R   18C 16 03 0 0" ∷
-    "bxCAN   RI%R    1B0 16 02 0 0" ∷
-    "bxCAN   RDT%R   1B4 16 02 0 0" ∷
-    "bxCAN   RDL%R   1B8 16 02 0 0" ∷
-    "bxCAN   RDH%R   1BC 16 02 0 0" ∷
-    "bxCAN   FMR     200 04 01 0 0" ∷
-    "bxCAN   FM1R    204 04 01 0 0" ∷
-    "bxCAN   FS1R    20C 04 01 0 0" ∷
-    "bxCAN   FFA1R   214 04 01 0 0" ∷
-    "bxCAN   FA1R    21C 04 01 0 0" ∷
-    "bxCAN   F%R1    240 08 14 0 0" ∷
-    "bxCAN   F%R2    244 08 14 0 0" ∷
-    -- fields, rows 52 to 162: lowest bit, width, how many; hex digits or 0 for decimal; shown always (0), while IDE is 0 (1), while it is 1 (2)
-    "MCR     INRQ    000 01 01 0 0" ∷
-    "MCR     SLEEP   001 01 01 0 0" ∷
-    "MCR     TXFP    002 01 01 0 0" ∷
-    "MCR     RFLM    003 01 01 0 0" ∷
-    "MCR     NART    004 01 01 0 0" ∷
-    "MCR     AWUM    005 01 01 0 0" ∷
-    "MCR     ABOM    006 01 01 0 0" ∷
-    "MCR     TTCM    007 01 01 0 0" ∷
-    "MCR     RESET   015 01 01 0 0" ∷
-    "MCR     DBF     016 01 01 0 0" ∷
-    "MSR     INAK    000 01 01 0 0" ∷
-    "MSR     SLAK    001 01 01 0 0" ∷
-    "MSR     ERRI    002 01 01 0 0" ∷
-    "MSR     WKUI    003 01 01 0 0" ∷
-    "MSR     SLAKI   004 01 01 0 0" ∷
-    "MSR     TXM     008 01 01 0 0" ∷
-    "MSR     RXM     009 01 01 0 0" ∷
-    "MSR     SAMP    010 01 01 0 0" ∷
-    "MSR     RX      011 01 01 0 0" ∷
-    "TSR     RQCP0   000 01 01 0 0" ∷
-    "TSR     TXOK0   001 01 01 0 0" ∷
-    "TSR     ALST0   002 01 01 0 0" ∷
-    "TSR     TERR0   003 01 01 0 0" ∷
-    "TSR     ABRQ0   007 01 01 0 0" ∷
-    "TSR     RQCP1   008 01 01 0 0" ∷
-    "TSR     TXOK1   009 01 01 0 0" ∷
-    "TSR     ALST1   010 01 01 0 0" ∷
-    "TSR     TERR1   011 01 01 0 0" ∷
-    "TSR     ABRQ1   015 01 01 0 0" ∷
-    "TSR     RQCP2   016 01 01 0 0" ∷
-    "TSR     TXOK2   017 01 01 0 0" ∷
-    "TSR     ALST2   018 01 01 0 0" ∷
-    "TSR     TERR2   019 01 01 0 0" ∷
-    "TSR     ABRQ2   023 01 01 0 0" ∷
-    "TSR     CODE    024 02 01 0 0" ∷
-    "TSR     TME0    026 01 01 0 0" ∷
-    "TSR     TME1    027 01 01 0 0" ∷
-    "TSR     TME2    028 01 01 0 0" ∷
-    "TSR     LOW0    029 01 01 0 0" ∷
-    "TSR     LOW1    030 01 01 0 0" ∷
-    "TSR     LOW2    031 01 01 0 0" ∷
-    "RF0R    FMP0    000 02 01 0 0" ∷
-    "RF0R    FULL0   003 01 01 0 0" ∷
-    "RF0R    FOVR0   004 01 01 0 0" ∷
-    "RF0R    RFOM0   005 01 01 0 0" ∷
-    "RF1R    FMP1    000 02 01 0 0" ∷
-    "RF1R    FULL1   003 01 01 0 0" ∷
-    "RF1R    FOVR1   004 01 01 0 0" ∷
-    "RF1R    RFOM1   005 01 01 0 0" ∷
-    "IER     TMEIE   000 01 01 0 0" ∷
-    "IER     FMPIE0  001 01 01 0 0" ∷
-    "IER     FFIE0   002 01 01 0 0" ∷
-    "IER     FOVIE0  003 01 01 0 0" ∷
-    "IER     FMPIE1  004 01 01 0 0" ∷
-    "IER     FFIE1   005 01 01 0 0" ∷
-    "IER     FOVIE1  006 01 01 0 0" ∷
-    "IER     EWGIE   008 01 01 0 0" ∷
-    "IER     EPVIE   009 01 01 0 0" ∷
-    "IER     BOFIE   010 01 01 0 0" ∷
-    "IER     LECIE   011 01 01 0 0" ∷
-    "IER     ERRIE   015 01 01 0 0" ∷
-    "IER     WKUIE   016 01 01 0 0" ∷
-    "IER     SLKIE   017 01 01 0 0" ∷
-    "ESR     EWGF    000 01 01 0 0" ∷
-    "ESR     EPVF    001 01 01 0 0" ∷
-    "ESR     BOFF    002 01 01 0 0" ∷
-    "ESR     LEC     004 03 01 0 0" ∷
-    "ESR     TEC     016 08 01 0 0" ∷
-    "ESR     REC     024 08 01 0 0" ∷
-    "BTR     BRP     000 10 01 0 0" ∷
-    "BTR     TS1     016 04 01 0 0" ∷
-    "BTR     TS2     020 03 01 0 0" ∷
-    "BTR     SJW     024 02 01 0 0" ∷
-    "BTR     LBKM    030 01 01 0 0" ∷
-    "BTR     SILM    031 01 01 0 0" ∷
-    "TI%R    STID    021 11 01 3 1" ∷
-    "TI%R    EXID    003 29 01 8 2" ∷
-    "TI%R    IDE     002 01 01 0 0" ∷
-    "TI%R    RTR     001 01 01 0 0" ∷
-    "TI%R    TXRQ    000 01 01 0 0" ∷
-    "TDT%R   DLC     000 04 01 0 0" ∷
-    "TDT%R   TGT     008 01 01 0 0" ∷
-    "TDT%R   TIME    016 16 01 0 0" ∷
-    "TDL%R   DATA0   000 08 01 2 0" ∷
-    "TDL%R   DATA1   008 08 01 2 0" ∷
-    "TDL%R   DATA2   016 08 01 2 0" ∷
-    "TDL%R   DATA3   024 08 01 2 0" ∷
-    "TDH%R   DATA4   000 08 01 2 0" ∷
-    "TDH%R   DATA5   008 08 01 2 0" ∷
-    "TDH%R   DATA6   016 08 01 2 0" ∷
-    "TDH%R   DATA7   024 08 01 2 0" ∷
-    "RI%R    STID    021 11 01 3 1" ∷
-    "RI%R    EXID    003 29 01 8 2" ∷
-    "RI%R    IDE     002 01 01 0 0" ∷
-    "RI%R    RTR     001 01 01 0 0" ∷
-    "RDT%R   DLC     000 04 01 0 0" ∷
-    "RDT%R   FMI     008 08 01 0 0" ∷
-    "RDT%R   TIME    016 16 01 0 0" ∷
-    "RDL%R   DATA0   000 08 01 2 0" ∷
-    "RDL%R   DATA1   008 08 01 2 0" ∷
-    "RDL%R   DATA2   016 08 01 2 0" ∷
-    "RDL%R   DATA3   024 08 01 2 0" ∷
-    "RDH%R   DATA4   000 08 01 2 0" ∷
-    "RDH%R   DATA5   008 08 01 2 0" ∷
-    "RDH%R   DATA6   016 08 01 2 0" ∷
-    "RDH%R   DATA7   024 08 01 2 0" ∷
-    "FMR     FINIT   000 01 01 0 0" ∷
-    "FM1R    FBM%    000 01 14 0 0" ∷
-    "FS1R    FSC%    000 01 14 0 0" ∷
-    "FFA1R   FFA%    000 01 14 0 0" ∷
-    "FA1R    FACT%   000 01 14 0 0" ∷ []
+-- a row as bytes: eight for the name, with blanks behind it, two for the place
+unfoldable pub row : String → ℕ → ℕ → ℕ → ℕ → ℕ → List ℕ
+row name place size count x y = take 8 (bytes name ++ replicate 8 32) ++ (place / 256 ∷ place % 256 ∷ size ∷ count ∷ x ∷ y ∷ [])
 
--- byte i of the rows, one behind the other
-unfoldable pub tableByte : ℕ → ℕ
-tableByte i = byteAt (bytes (getD rows (i / 29) "")) (i % 29)
+-- rows 0 to 51
+unfoldable pub general : List (List ℕ)
+general =
+    -- what begins a line
+    row "reset" 1 1 1 0 0 ∷
+    row "read" 2 1 1 0 0 ∷
+    row "write" 3 1 1 0 0 ∷
+    row "idle" 4 1 1 0 0 ∷
+    row "bits" 5 1 1 0 0 ∷
+    row "activity" 6 1 1 0 0 ∷
+    row "start" 7 1 1 0 0 ∷
+    row "end" 8 1 1 0 0 ∷
+    row "frame" 9 1 1 0 0 ∷
+    row "error" 10 1 1 0 0 ∷
+    row "expect" 11 1 1 0 0 ∷
+    row "repeat" 12 1 1 0 0 ∷
+    row "done" 13 1 1 0 0 ∷
+    row "bytes" 14 1 1 0 0 ∷
+    -- the results of an own frame
+    row "good" 0 1 1 0 0 ∷
+    row "stuff" 1 1 1 0 0 ∷
+    row "form" 2 1 1 0 0 ∷
+    row "ack" 3 1 1 0 0 ∷
+    row "bit1" 4 1 1 0 0 ∷
+    row "bit0" 5 1 1 0 0 ∷
+    row "crc" 6 1 1 0 0 ∷
+    row "lost" 7 1 1 0 0 ∷
+    -- the interrupt lines
+    row "TX" 0 1 1 0 0 ∷
+    row "FIFO0" 1 1 1 0 0 ∷
+    row "FIFO1" 2 1 1 0 0 ∷
+    row "SCE" 3 1 1 0 0 ∷
+    row "none" 4 1 1 0 0 ∷
+    -- what is expected
+    row "refused" 1 1 1 0 0 ∷
+    row "lines" 2 1 1 0 0 ∷
+    -- the registers
+    row "MCR" 0x000 4 1 52 10 ∷
+    row "MSR" 0x004 4 1 62 9 ∷
+    row "TSR" 0x008 4 1 71 22 ∷
+    row "RF0R" 0x00C 4 1 93 4 ∷
+    row "RF1R" 0x010 4 1 97 4 ∷
+    row "IER" 0x014 4 1 101 14 ∷
+    row "ESR" 0x018 4 1 115 6 ∷
+    row "BTR" 0x01C 4 1 121 6 ∷
+    row "TI%R" 0x180 16 3 127 5 ∷
+    row "TDT%R" 0x184 16 3 132 3 ∷
+    row "TDL%R" 0x188 16 3 135 4 ∷
+    row "TDH%R" 0x18C 16 3 139 4 ∷
+    row "RI%R" 0x1B0 16 2 143 4 ∷
+    row "RDT%R" 0x1B4 16 2 147 3 ∷
+    row "RDL%R" 0x1B8 16 2 150 4 ∷
+    row "RDH%R" 0x1BC 16 2 154 4 ∷
+    row "FMR" 0x200 4 1 158 1 ∷
+    row "FM1R" 0x204 4 1 159 1 ∷
+    row "FS1R" 0x20C 4 1 160 1 ∷
+    row "FFA1R" 0x214 4 1 161 1 ∷
+    row "FA1R" 0x21C 4 1 162 1 ∷
+    row "F%R1" 0x240 8 14 0 0 ∷
+    row "F%R2" 0x244 8 14 0 0 ∷ []
+
+-- rows 52 to 162: the fields of the registers
+unfoldable pub fields : List (List ℕ)
+fields =
+    -- MCR
+    row "INRQ" 0 1 1 0 0 ∷
+    row "SLEEP" 1 1 1 0 0 ∷
+    row "TXFP" 2 1 1 0 0 ∷
+    row "RFLM" 3 1 1 0 0 ∷
+    row "NART" 4 1 1 0 0 ∷
+    row "AWUM" 5 1 1 0 0 ∷
+    row "ABOM" 6 1 1 0 0 ∷
+    row "TTCM" 7 1 1 0 0 ∷
+    row "RESET" 15 1 1 0 0 ∷
+    row "DBF" 16 1 1 0 0 ∷
+    -- MSR
+    row "INAK" 0 1 1 0 0 ∷
+    row "SLAK" 1 1 1 0 0 ∷
+    row "ERRI" 2 1 1 0 0 ∷
+    row "WKUI" 3 1 1 0 0 ∷
+    row "SLAKI" 4 1 1 0 0 ∷
+    row "TXM" 8 1 1 0 0 ∷
+    row "RXM" 9 1 1 0 0 ∷
+    row "SAMP" 10 1 1 0 0 ∷
+    row "RX" 11 1 1 0 0 ∷
+    -- TSR
+    row "RQCP0" 0 1 1 0 0 ∷
+    row "TXOK0" 1 1 1 0 0 ∷
+    row "ALST0" 2 1 1 0 0 ∷
+    row "TERR0" 3 1 1 0 0 ∷
+    row "ABRQ0" 7 1 1 0 0 ∷
+    row "RQCP1" 8 1 1 0 0 ∷
+    row "TXOK1" 9 1 1 0 0 ∷
+    row "ALST1" 10 1 1 0 0 ∷
+    row "TERR1" 11 1 1 0 0 ∷
+    row "ABRQ1" 15 1 1 0 0 ∷
+    row "RQCP2" 16 1 1 0 0 ∷
+    row "TXOK2" 17 1 1 0 0 ∷
+    row "ALST2" 18 1 1 0 0 ∷
+    row "TERR2" 19 1 1 0 0 ∷
+    row "ABRQ2" 23 1 1 0 0 ∷
+    row "CODE" 24 2 1 0 0 ∷
+    row "TME0" 26 1 1 0 0 ∷
+    row "TME1" 27 1 1 0 0 ∷
+    row "TME2" 28 1 1 0 0 ∷
+    row "LOW0" 29 1 1 0 0 ∷
+    row "LOW1" 30 1 1 0 0 ∷
+    row "LOW2" 31 1 1 0 0 ∷
+    -- RF0R
+    row "FMP0" 0 2 1 0 0 ∷
+    row "FULL0" 3 1 1 0 0 ∷
+    row "FOVR0" 4 1 1 0 0 ∷
+    row "RFOM0" 5 1 1 0 0 ∷
+    -- RF1R
+    row "FMP1" 0 2 1 0 0 ∷
+    row "FULL1" 3 1 1 0 0 ∷
+    row "FOVR1" 4 1 1 0 0 ∷
+    row "RFOM1" 5 1 1 0 0 ∷
+    -- IER
+    row "TMEIE" 0 1 1 0 0 ∷
+    row "FMPIE0" 1 1 1 0 0 ∷
+    row "FFIE0" 2 1 1 0 0 ∷
+    row "FOVIE0" 3 1 1 0 0 ∷
+    row "FMPIE1" 4 1 1 0 0 ∷
+    row "FFIE1" 5 1 1 0 0 ∷
+    row "FOVIE1" 6 1 1 0 0 ∷
+    row "EWGIE" 8 1 1 0 0 ∷
+    row "EPVIE" 9 1 1 0 0 ∷
+    row "BOFIE" 10 1 1 0 0 ∷
+    row "LECIE" 11 1 1 0 0 ∷
+    row "ERRIE" 15 1 1 0 0 ∷
+    row "WKUIE" 16 1 1 0 0 ∷
+    row "SLKIE" 17 1 1 0 0 ∷
+    -- ESR
+    row "EWGF" 0 1 1 0 0 ∷
+    row "EPVF" 1 1 1 0 0 ∷
+    row "BOFF" 2 1 1 0 0 ∷
+    row "LEC" 4 3 1 0 0 ∷
+    row "TEC" 16 8 1 0 0 ∷
+    row "REC" 24 8 1 0 0 ∷
+    -- BTR
+    row "BRP" 0 10 1 0 0 ∷
+    row "TS1" 16 4 1 0 0 ∷
+    row "TS2" 20 3 1 0 0 ∷
+    row "SJW" 24 2 1 0 0 ∷
+    row "LBKM" 30 1 1 0 0 ∷
+    row "SILM" 31 1 1 0 0 ∷
+    -- TI%R
+    row "STID" 21 11 1 3 1 ∷
+    row "EXID" 3 29 1 8 2 ∷
+    row "IDE" 2 1 1 0 0 ∷
+    row "RTR" 1 1 1 0 0 ∷
+    row "TXRQ" 0 1 1 0 0 ∷
+    -- TDT%R
+    row "DLC" 0 4 1 0 0 ∷
+    row "TGT" 8 1 1 0 0 ∷
+    row "TIME" 16 16 1 0 0 ∷
+    -- TDL%R
+    row "DATA0" 0 8 1 2 0 ∷
+    row "DATA1" 8 8 1 2 0 ∷
+    row "DATA2" 16 8 1 2 0 ∷
+    row "DATA3" 24 8 1 2 0 ∷
+    -- TDH%R
+    row "DATA4" 0 8 1 2 0 ∷
+    row "DATA5" 8 8 1 2 0 ∷
+    row "DATA6" 16 8 1 2 0 ∷
+    row "DATA7" 24 8 1 2 0 ∷
+    -- RI%R
+    row "STID" 21 11 1 3 1 ∷
+    row "EXID" 3 29 1 8 2 ∷
+    row "IDE" 2 1 1 0 0 ∷
+    row "RTR" 1 1 1 0 0 ∷
+    -- RDT%R
+    row "DLC" 0 4 1 0 0 ∷
+    row "FMI" 8 8 1 0 0 ∷
+    row "TIME" 16 16 1 0 0 ∷
+    -- RDL%R
+    row "DATA0" 0 8 1 2 0 ∷
+    row "DATA1" 8 8 1 2 0 ∷
+    row "DATA2" 16 8 1 2 0 ∷
+    row "DATA3" 24 8 1 2 0 ∷
+    -- RDH%R
+    row "DATA4" 0 8 1 2 0 ∷
+    row "DATA5" 8 8 1 2 0 ∷
+    row "DATA6" 16 8 1 2 0 ∷
+    row "DATA7" 24 8 1 2 0 ∷
+    -- FMR
+    row "FINIT" 0 1 1 0 0 ∷
+    -- FM1R
+    row "FBM%" 0 1 14 0 0 ∷
+    -- FS1R
+    row "FSC%" 0 1 14 0 0 ∷
+    -- FFA1R
+    row "FFA%" 0 1 14 0 0 ∷
+    -- FA1R
+    row "FACT%" 0 1 14 0 0 ∷ []
+
+abbrev pub noRow : List ℕ
+noRow = replicate 14 0
+
+-- row i of a list of rows
+unfoldable pub rowOf : List (List ℕ) → ℕ → List ℕ
+rowOf [] i = noRow
+rowOf (r ∷ l) zero = r
+rowOf (r ∷ l) (suc i) = rowOf l i
+
+-- a row by its number
+unfoldable pub text : ℕ → List ℕ
+text i = pick (ltb i 52) (rowOf general i) (rowOf fields (i - 52))
+
+-- row i of rows that stand one behind the other
+unfoldable pub cut : List ℕ → ℕ → List ℕ
+cut s i = pick (leb (length s / 14) i) noRow (take 14 (drop (i * 14) s))

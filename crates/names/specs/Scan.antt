@@ -2,12 +2,12 @@
 -- numbers of 64 bits.
 use mathlib.Core.Bool.{Bool, not, _&&_, _||_}
 use mathlib.Core.List.{List}
-use Prim.Native.Nat.{ℕ, zero, suc, _+_, _-_, _*_, _%_, _^_, min}
+use Prim.Native.Nat.{ℕ, zero, suc, _+_, _-_, _*_, _%_, _^_}
 use lib.Dec.{eqb, ltb, leb}
 use lib.ListN.{length, getD}
 use Rattle.model.specs.Base.{pick}
 use Rattle.names.specs.declared.scan.Class.{Class}
-use Rattle.names.specs.declared.scan.Class.the-variants.{Blank, NoBlank, HexDigit, Digit, NoDigit}
+use Rattle.names.specs.declared.scan.Class.the-variants.{Blank, NoBlank, HexDigit, Digit, Letter}
 use Rattle.names.specs.declared.scan.Word.{Word}
 
 unfoldable pub byteAt : List ℕ → ℕ → ℕ
@@ -38,7 +38,7 @@ isOf Blank c = isBlank c
 isOf NoBlank c = not (isBlank c)
 isOf HexDigit c = ltb (digitOf c) 16
 isOf Digit c = ltb (digitOf c) 10
-isOf NoDigit c = leb 10 (digitOf c)
+isOf Letter c = not (isBlank c) && leb 10 (digitOf c)
 
 -- from place i over bytes of a class, at most n
 unfoldable pub runOn : List ℕ → ℕ → Class → ℕ → ℕ
@@ -75,22 +75,8 @@ plain i j = record { from = i; digits = j; rest = j; to = j }
 abbrev pub digitsEnd : List ℕ → ℕ → ℕ → ℕ → Word
 digitsEnd s i d j = record { from = i; digits = d; rest = runEnd s d Digit; to = j }
 
-abbrev pub wordFrom : List ℕ → ℕ → ℕ → Word
-wordFrom s i j = digitsEnd s i (min (runEnd s i NoDigit) j) j
-
 -- the first word at or behind a place; '#' begins a comment, where it stands as the first letter of a word
 unfoldable pub wordAt : List ℕ → ℕ → Word
 wordAt s p =
     pick (eqb (byteAt s (runEnd s p Blank)) 35) (plain (runEnd s p Blank) (runEnd s p Blank))
-    (wordFrom s (runEnd s p Blank) (runEnd s (runEnd s p Blank) NoBlank))
-
--- byte k of what stands from i up to j; behind it a blank
-unfoldable pub letterOf : List ℕ → ℕ → ℕ → ℕ → ℕ
-letterOf s i j k = pick (leb (j - i) k) 32 (byteAt s (behind i k))
-
--- letter k of a word, with '%' for its digits
-unfoldable pub letter : List ℕ → Word → ℕ → ℕ
-letter s w k =
-    pick (leb (w .rest) (w .digits)) (letterOf s (w .from) (w .to) k)
-    (pick (ltb k (w .digits - w .from)) (letterOf s (w .from) (w .digits) k)
-    (pick (eqb k (w .digits - w .from)) 37 (letterOf s (w .rest) (w .to) (k - (w .digits - w .from) - 1))))
+    (digitsEnd s (runEnd s p Blank) (runEnd s (runEnd s p Blank) Letter) (runEnd s (runEnd s p Blank) NoBlank))

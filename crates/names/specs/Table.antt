@@ -1,45 +1,44 @@
 -- The one table of names by its groups: the manual's registers and fields, the words of a lesson. Trace, text and the reader of
 -- lessons share it.
-use mathlib.Core.Bool.{Bool}
 use mathlib.Core.List.{List}
 use Prim.Native.Nat.{ℕ, _+_, _*_}
 unfoldable pub use Rattle.names.specs.Listing.{bytes}
-use Rattle.names.specs.Rows as rows
-use Rattle.names.specs.Rows.{start, nameAt, cellLetter}
+use Rattle.names.specs.Rows.{numbers, findOn, indexed, registerOn}
 use Rattle.names.specs.declared.scan.Word.{Word}
 use Rattle.names.specs.declared.rows.Found.{Found}
+use Rattle.names.specs.declared.Span.{Span}
 use Rattle.names.specs.declared.Group.{Group}
 use Rattle.names.specs.declared.Group.the-variants.{Registers, Fields, Steps, Results, Lines, Expectations}
 use Rattle.names.specs.declared.rows.Column.{Column}
-use Rattle.names.specs.declared.rows.Column.the-variants.{Place, Size}
+use Rattle.names.specs.declared.rows.Column.the-variants.{Place, Size, Count, Digits, Shown}
 
--- the place of the cell with a group's name: the group of its first row, or the name of a field's register
-unfoldable pub groupAt : Group → ℕ
-groupAt Registers = start 29
-groupAt (Fields row) = nameAt row
-groupAt Steps = start 0
-groupAt Results = start 14
-groupAt Lines = start 22
-groupAt Expectations = start 27
+abbrev pub span : ℕ → ℕ → Span
+span i n = record { first = i; count = n }
+
+-- the rows of a group: the first, and how many there are
+unfoldable pub rowsOf : Group → Span
+rowsOf Registers = span 29 23
+rowsOf (Fields row) = span (numbers row .digits) (numbers row .shown)
+rowsOf Steps = span 0 14
+rowsOf Results = span 14 8
+rowsOf Lines = span 22 5
+rowsOf Expectations = span 27 2
 
 -- the row that a word names in a group
 unfoldable pub named : List ℕ → Word → Group → Found
-named s w g = rows.named s w (groupAt g)
+named s w g = indexed s w (findOn s w (rowsOf g .first) (rowsOf g .count))
 
 -- the row of the register at an offset
 unfoldable pub registerAt : ℕ → Found
-registerAt o = rows.registerAt o
-
-unfoldable pub belongs : ℕ → Group → Bool
-belongs row g = rows.belongs row (groupAt g)
-
--- byte k of a row's name
-unfoldable pub letter : ℕ → ℕ → ℕ
-letter row k = cellLetter (nameAt row) k
+registerAt o = registerOn o 29 23
 
 unfoldable pub number : ℕ → Column → ℕ
-number row c = rows.number row c
+number row Place = numbers row .place
+number row Size = numbers row .size
+number row Count = numbers row .count
+number row Digits = numbers row .digits
+number row Shown = numbers row .shown
 
 -- an offset, a lowest bit, a tag, a result, a line
 unfoldable pub place : Found → ℕ
-place f = number (f .row) Place + number (f .row) Size * f .index
+place f = numbers (f .row) .place + numbers (f .row) .size * f .index

@@ -2,13 +2,21 @@
 ghost use mathlib.Core.Path.{_≡_};
 ghost use Rattle.names.specs.Table as tables;
 use rows::Column;
+use rows::FIELDS;
 use rows::Found;
-use rows::ROW;
+use rows::NONE;
+use rows::REGISTERS;
+use rows::find;
+use rows::index_at;
+use rows::numbers_of;
 use scan::Word;
+use scan::byte_at;
+use scan::distance;
+use scan::value;
 
 pub mod rows; // the rows of the table
 pub mod scan; // words, letters and numbers in a row of bytes
-mod table; // the table as bytes
+pub mod table; // the table as bytes
 
 // What is told by name: the registers, the fields of a register by its row, what begins a line of a lesson, the result of an own
 // frame, the interrupt lines, what is expected.
@@ -21,71 +29,113 @@ pub enum Group {
     Expectations,
 }
 
-// Where the first row of a group begins, with the group's name.
-const STEPS: usize = 0;
+// Rows that follow one another: the first, and how many there are.
+pub struct Span {
+    pub first: u32,
+    pub count: u32,
+}
 
-const RESULTS: usize = 14 * ROW;
-
-const LINES: usize = 22 * ROW;
-
-const EXPECTATIONS: usize = 27 * ROW;
-
-const REGISTERS: usize = 29 * ROW;
-
-// The place of the cell that has the name of a group.
-fn group_at(g: Group) -> usize
-    ensures { λ r. ⌜ r ≡ tables.groupAt g ⌝ }
+// The rows of a group.
+pub fn rows_of(g: Group) -> Span
+    ensures { λ r. ⌜ r ≡ tables.rowsOf g ⌝ }
 {
     match g {
-        Group::Registers => REGISTERS,
-        Group::Fields(row) => rows::name_at(row),
-        Group::Steps => STEPS,
-        Group::Results => RESULTS,
-        Group::Lines => LINES,
-        Group::Expectations => EXPECTATIONS,
+        Group::Registers => Span {
+            first: 29,
+            count: 23,
+        },
+        Group::Fields(row) => {
+            let n = numbers_of(row);
+            Span {
+                first: n.digits,
+                count: n.shown,
+            }
+        }
+        Group::Steps => Span {
+            first: 0,
+            count: 14,
+        },
+        Group::Results => Span {
+            first: 14,
+            count: 8,
+        },
+        Group::Lines => Span {
+            first: 22,
+            count: 5,
+        },
+        Group::Expectations => Span {
+            first: 27,
+            count: 2,
+        },
     }
 }
 
-// The row that a word names in a group.
+// The row that a word names in a group, with the number in the word; that is written with no zero in front.
 pub fn named(s: &[u8], w: Word, g: Group) -> Found
     ensures { λ r. ⌜ r ≡ tables.named (now (s .entry)) w g ⌝ }
 {
-    rows::named(s, w, group_at(g))
+    let x = rows_of(g);
+    let row = find(s, w, x.first, x.count);
+    let count = number(row, Column::Count);
+    if count <= 1 {
+        return Found { row: row, index: 0 };
+    }
+    let i = value(s, w.digits, w.rest, false);
+    let d = distance(w.digits, w.rest);
+    let plain = (d == 1) | ((d != 0) & (byte_at(s, w.digits) != b'0'));
+    if plain & (i < count as u64) {
+        let index = i as u32;
+        return Found {
+            row: row,
+            index: index,
+        };
+    }
+    Found {
+        row: NONE,
+        index: 0,
+    }
 }
 
 // The row of the register at an offset.
 pub fn register_at(offset: u32) -> Found
     ensures { λ r. ⌜ r ≡ tables.registerAt offset ⌝ }
 {
-    rows::register_at(offset)
-}
-
-// Whether a row belongs to a group.
-pub fn belongs(row: usize, g: Group) -> bool
-    ensures { λ r. ⌜ r ≡ tables.belongs row g ⌝ }
-{
-    rows::belongs(row, group_at(g))
-}
-
-// Byte k of a row's name, which has eight with the blanks behind it.
-pub fn letter(row: usize, k: usize) -> u8
-    ensures { λ r. ⌜ r ≡ tables.letter row k ⌝ }
-{
-    rows::cell_letter(rows::name_at(row), k)
+    let mut row: usize = REGISTERS;
+    while row < FIELDS {
+        let n = numbers_of(row);
+        let index = index_at(n.place, n.size, n.count, offset);
+        if index < n.count {
+            return Found {
+                row: row,
+                index: index,
+            };
+        }
+        row += 1;
+    }
+    Found {
+        row: NONE,
+        index: 0,
+    }
 }
 
 // The number that a row has in a column.
 pub fn number(row: usize, c: Column) -> u32
     ensures { λ r. ⌜ r ≡ tables.number row c ⌝ }
 {
-    rows::number(row, c)
+    let n = numbers_of(row);
+    match c {
+        Column::Place => n.place,
+        Column::Size => n.size,
+        Column::Count => n.count,
+        Column::Digits => n.digits,
+        Column::Shown => n.shown,
+    }
 }
 
 // The number of what was found: the offset of a register, the lowest bit of a field, a tag, a result, a line.
 pub fn place(f: Found) -> u64
     ensures { λ r. ⌜ r ≡ tables.place f ⌝ }
 {
-    let first = number(f.row, Column::Place) as u64;
-    let step = number(f.row, Column::Size) as u64;
-    first + step * (f.index as u64)
+    let n = numbers_of(f.row);
+    n.place as u64 + n.size as u64 * f.index as u64
 }

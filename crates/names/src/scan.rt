@@ -8,7 +8,7 @@ pub enum Class {
     NoBlank,
     HexDigit,
     Digit,
-    NoDigit,
+    Letter,
 }
 
 // A word from one place up to another, with its first decimal digits from `digits` up to `rest`.
@@ -26,12 +26,6 @@ pub fn byte_at(s: &[u8], i: usize) -> u8
         return s[i];
     }
     32
-}
-
-fn is_blank(c: u8) -> bool
-    ensures { λ r. ⌜ r ≡ scan.isBlank c ⌝ }
-{
-    (c == 32) | (c == 9) | (c == 13)
 }
 
 // The value of a hex digit, and 16 for any other byte.
@@ -53,12 +47,14 @@ pub fn digit_of(c: u8) -> u8
 fn is_of(k: Class, c: u8) -> bool
     ensures { λ r. ⌜ r ≡ scan.isOf k c ⌝ }
 {
+    let blank = (c == 32) | (c == 9) | (c == 13);
+    let d = digit_of(c);
     match k {
-        Class::Blank => is_blank(c),
-        Class::NoBlank => !is_blank(c),
-        Class::HexDigit => digit_of(c) < 16,
-        Class::Digit => digit_of(c) < 10,
-        Class::NoDigit => 10 <= digit_of(c),
+        Class::Blank => blank,
+        Class::NoBlank => !blank,
+        Class::HexDigit => d < 16,
+        Class::Digit => d < 10,
+        Class::Letter => !blank & (10 <= d),
     }
 }
 
@@ -68,7 +64,7 @@ pub fn run_end(s: &[u8], from: usize, k: Class) -> usize
 {
     let mut i = from;
     while i < s.len() {
-        if !is_of(k, byte_at(s, i)) {
+        if !is_of(k, s[i]) {
             return i;
         }
         i += 1;
@@ -78,30 +74,19 @@ pub fn run_end(s: &[u8], from: usize, k: Class) -> usize
 
 // ---- numbers
 
-// A number with one digit more; 2^32 is no number of 32 bits.
-pub(crate) fn with_digit(a: u64, c: u8, hex: bool) -> u64
-    ensures { λ r. ⌜ r ≡ scan.withDigit a c hex ⌝ }
-{
-    let base = bits::pick_u8(hex, 16, 10);
-    let d = digit_of(c);
-    if (base <= d) | (4294967296 <= a) {
-        return 4294967296;
-    }
-    let b = a * (base as u64) + (d as u64);
-    if b < 4294967296 {
-        return b;
-    }
-    4294967296
-}
-
-// The number whose digits stand from one place up to another.
+// The number whose digits stand from one place up to another; 2^32 where it is no number of 32 bits.
 pub fn value(s: &[u8], from: usize, to: usize, hex: bool) -> u64
     ensures { λ r. ⌜ r ≡ scan.value (now (s .entry)) from to hex ⌝ }
 {
+    let base = bits::pick_u8(hex, 16, 10) as u64;
     let mut a: u64 = 0;
     let mut i = from;
     while i < to {
-        a = with_digit(a, byte_at(s, i), hex);
+        let d = digit_of(byte_at(s, i)) as u64;
+        a = a * base + d;
+        if (base <= d) | (4294967296 <= a) {
+            return 4294967296;
+        }
         i += 1;
     }
     a
@@ -119,59 +104,25 @@ pub fn distance(from: usize, to: usize) -> usize
     to - from
 }
 
-// Byte k of what stands from one place up to another; behind it a blank.
-fn letter_of(s: &[u8], from: usize, to: usize, k: usize) -> u8
-    ensures { λ r. ⌜ r ≡ scan.letterOf (now (s .entry)) from to k ⌝ }
-{
-    if distance(from, to) <= k {
-        return 32;
-    }
-    byte_at(s, std::num::wrapping_add_usize(from, k))
-}
-
 // The first word at or behind a place; empty at a comment and at the end.
 pub fn word_at(s: &[u8], place: usize) -> Word
     ensures { λ r. ⌜ r ≡ scan.wordAt (now (s .entry)) place ⌝ }
 {
     let from = run_end(s, place, Class::Blank);
     if byte_at(s, from) == b'#' {
-        return plain(from, from);
+        return Word {
+            from: from,
+            digits: from,
+            rest: from,
+            to: from,
+        };
     }
     let to = run_end(s, from, Class::NoBlank);
-    let digits = bits::least(run_end(s, from, Class::NoDigit), to);
+    let digits = run_end(s, from, Class::Letter);
     Word {
         from: from,
         digits: digits,
         rest: run_end(s, digits, Class::Digit),
         to: to,
     }
-}
-
-// A word whose digits are not told apart from its letters.
-pub fn plain(from: usize, to: usize) -> Word
-    ensures { λ r. ⌜ r ≡ scan.plain from to ⌝ }
-{
-    Word {
-        from: from,
-        digits: to,
-        rest: to,
-        to: to,
-    }
-}
-
-// Letter k of a word, with a percent sign for its digits; behind its end a blank.
-pub(crate) fn letter(s: &[u8], w: Word, k: usize) -> u8
-    ensures { λ r. ⌜ r ≡ scan.letter (now (s .entry)) w k ⌝ }
-{
-    if w.rest <= w.digits {
-        return letter_of(s, w.from, w.to, k);
-    }
-    let n = distance(w.from, w.digits);
-    if k < n {
-        return letter_of(s, w.from, w.digits, k);
-    }
-    if k == n {
-        return b'%';
-    }
-    letter_of(s, w.rest, w.to, k - n - 1)
 }

@@ -1,178 +1,216 @@
-// The list of names, and one byte of it; the same rows stand in specs/Listing.antt, what their columns are in specs/Rows.antt.
+// The list of names, row by row, as bytes; the same rows stand with their numbers in specs/Listing.antt, what their columns are in
+// specs/Rows.antt.
 ghost use mathlib.Core.Path.{_≡_};
 ghost use Rattle.names.specs.Listing as listing;
-use super::scan::byte_at;
 
-// Byte i of the rows, one behind the other; behind the last a blank.
-pub(crate) fn at(i: usize) -> u8
-    ensures { λ r. ⌜ r ≡ listing.tableByte i ⌝ }
+// Row i of rows that stand one behind the other; where there is none zeros.
+fn cut(s: &[u8], i: usize) -> [u8; 14]
+    ensures { λ r. ⌜ r ≡ listing.cut (now (s .entry)) i ⌝ }
 {
-    byte_at(
+    let mut row = [0u8; 14];
+    if s.len() / 14 <= i {
+        return row;
+    }
+    let from = i * 14;
+    let mut k: usize = 0;
+    while k < 14 {
+        row[k] = s[from + k];
+        k += 1;
+    }
+    row
+}
+
+// The words of a lesson and the registers.
+fn general(i: usize) -> [u8; 14]
+    ensures { λ r. ⌜ r ≡ listing.rowOf listing.general i ⌝ }
+{
+    cut(
         b"\
-    step    reset   001 01 01 0 0\
-    step    read    002 01 01 0 0\
-    step    write   003 01 01 0 0\
-    step    idle    004 01 01 0 0\
-    step    bits    005 01 01 0 0\
-    step    activity006 01 01 0 0\
-    step    start   007 01 01 0 0\
-    step    end     008 01 01 0 0\
-    step    frame   009 01 01 0 0\
-    step    error   010 01 01 0 0\
-    step    expect  011 01 01 0 0\
-    step    repeat  012 01 01 0 0\
-    step    done    013 01 01 0 0\
-    step    bytes   014 01 01 0 0\
-    end     good    000 01 01 0 0\
-    end     stuff   001 01 01 0 0\
-    end     form    002 01 01 0 0\
-    end     ack     003 01 01 0 0\
-    end     bit1    004 01 01 0 0\
-    end     bit0    005 01 01 0 0\
-    end     crc     006 01 01 0 0\
-    end     lost    007 01 01 0 0\
-    lines   TX      000 01 01 0 0\
-    lines   FIFO0   001 01 01 0 0\
-    lines   FIFO1   002 01 01 0 0\
-    lines   SCE     003 01 01 0 0\
-    lines   none    004 01 01 0 0\
-    expect  refused 001 01 01 0 0\
-    expect  lines   002 01 01 0 0\
-    bxCAN   MCR     000 04 01 0 0\
-    bxCAN   MSR     004 04 01 0 0\
-    bxCAN   TSR     008 04 01 0 0\
-    bxCAN   RF0R    00C 04 01 0 0\
-    bxCAN   RF1R    010 04 01 0 0\
-    bxCAN   IER     014 04 01 0 0\
-    bxCAN   ESR     018 04 01 0 0\
-    bxCAN   BTR     01C 04 01 0 0\
-    bxCAN   TI%R    180 16 03 0 0\
-    bxCAN   TDT%R   184 16 03 0 0\
-    bxCAN   TDL%R   188 16 03 0 0\
-    bxCAN   TDH%R   18C 16 03 0 0\
-    bxCAN   RI%R    1B0 16 02 0 0\
-    bxCAN   RDT%R   1B4 16 02 0 0\
-    bxCAN   RDL%R   1B8 16 02 0 0\
-    bxCAN   RDH%R   1BC 16 02 0 0\
-    bxCAN   FMR     200 04 01 0 0\
-    bxCAN   FM1R    204 04 01 0 0\
-    bxCAN   FS1R    20C 04 01 0 0\
-    bxCAN   FFA1R   214 04 01 0 0\
-    bxCAN   FA1R    21C 04 01 0 0\
-    bxCAN   F%R1    240 08 14 0 0\
-    bxCAN   F%R2    244 08 14 0 0\
-    MCR     INRQ    000 01 01 0 0\
-    MCR     SLEEP   001 01 01 0 0\
-    MCR     TXFP    002 01 01 0 0\
-    MCR     RFLM    003 01 01 0 0\
-    MCR     NART    004 01 01 0 0\
-    MCR     AWUM    005 01 01 0 0\
-    MCR     ABOM    006 01 01 0 0\
-    MCR     TTCM    007 01 01 0 0\
-    MCR     RESET   015 01 01 0 0\
-    MCR     DBF     016 01 01 0 0\
-    MSR     INAK    000 01 01 0 0\
-    MSR     SLAK    001 01 01 0 0\
-    MSR     ERRI    002 01 01 0 0\
-    MSR     WKUI    003 01 01 0 0\
-    MSR     SLAKI   004 01 01 0 0\
-    MSR     TXM     008 01 01 0 0\
-    MSR     RXM     009 01 01 0 0\
-    MSR     SAMP    010 01 01 0 0\
-    MSR     RX      011 01 01 0 0\
-    TSR     RQCP0   000 01 01 0 0\
-    TSR     TXOK0   001 01 01 0 0\
-    TSR     ALST0   002 01 01 0 0\
-    TSR     TERR0   003 01 01 0 0\
-    TSR     ABRQ0   007 01 01 0 0\
-    TSR     RQCP1   008 01 01 0 0\
-    TSR     TXOK1   009 01 01 0 0\
-    TSR     ALST1   010 01 01 0 0\
-    TSR     TERR1   011 01 01 0 0\
-    TSR     ABRQ1   015 01 01 0 0\
-    TSR     RQCP2   016 01 01 0 0\
-    TSR     TXOK2   017 01 01 0 0\
-    TSR     ALST2   018 01 01 0 0\
-    TSR     TERR2   019 01 01 0 0\
-    TSR     ABRQ2   023 01 01 0 0\
-    TSR     CODE    024 02 01 0 0\
-    TSR     TME0    026 01 01 0 0\
-    TSR     TME1    027 01 01 0 0\
-    TSR     TME2    028 01 01 0 0\
-    TSR     LOW0    029 01 01 0 0\
-    TSR     LOW1    030 01 01 0 0\
-    TSR     LOW2    031 01 01 0 0\
-    RF0R    FMP0    000 02 01 0 0\
-    RF0R    FULL0   003 01 01 0 0\
-    RF0R    FOVR0   004 01 01 0 0\
-    RF0R    RFOM0   005 01 01 0 0\
-    RF1R    FMP1    000 02 01 0 0\
-    RF1R    FULL1   003 01 01 0 0\
-    RF1R    FOVR1   004 01 01 0 0\
-    RF1R    RFOM1   005 01 01 0 0\
-    IER     TMEIE   000 01 01 0 0\
-    IER     FMPIE0  001 01 01 0 0\
-    IER     FFIE0   002 01 01 0 0\
-    IER     FOVIE0  003 01 01 0 0\
-    IER     FMPIE1  004 01 01 0 0\
-    IER     FFIE1   005 01 01 0 0\
-    IER     FOVIE1  006 01 01 0 0\
-    IER     EWGIE   008 01 01 0 0\
-    IER     EPVIE   009 01 01 0 0\
-    IER     BOFIE   010 01 01 0 0\
-    IER     LECIE   011 01 01 0 0\
-    IER     ERRIE   015 01 01 0 0\
-    IER     WKUIE   016 01 01 0 0\
-    IER     SLKIE   017 01 01 0 0\
-    ESR     EWGF    000 01 01 0 0\
-    ESR     EPVF    001 01 01 0 0\
-    ESR     BOFF    002 01 01 0 0\
-    ESR     LEC     004 03 01 0 0\
-    ESR     TEC     016 08 01 0 0\
-    ESR     REC     024 08 01 0 0\
-    BTR     BRP     000 10 01 0 0\
-    BTR     TS1     016 04 01 0 0\
-    BTR     TS2     020 03 01 0 0\
-    BTR     SJW     024 02 01 0 0\
-    BTR     LBKM    030 01 01 0 0\
-    BTR     SILM    031 01 01 0 0\
-    TI%R    STID    021 11 01 3 1\
-    TI%R    EXID    003 29 01 8 2\
-    TI%R    IDE     002 01 01 0 0\
-    TI%R    RTR     001 01 01 0 0\
-    TI%R    TXRQ    000 01 01 0 0\
-    TDT%R   DLC     000 04 01 0 0\
-    TDT%R   TGT     008 01 01 0 0\
-    TDT%R   TIME    016 16 01 0 0\
-    TDL%R   DATA0   000 08 01 2 0\
-    TDL%R   DATA1   008 08 01 2 0\
-    TDL%R   DATA2   016 08 01 2 0\
-    TDL%R   DATA3   024 08 01 2 0\
-    TDH%R   DATA4   000 08 01 2 0\
-    TDH%R   DATA5   008 08 01 2 0\
-    TDH%R   DATA6   016 08 01 2 0\
-    TDH%R   DATA7   024 08 01 2 0\
-    RI%R    STID    021 11 01 3 1\
-    RI%R    EXID    003 29 01 8 2\
-    RI%R    IDE     002 01 01 0 0\
-    RI%R    RTR     001 01 01 0 0\
-    RDT%R   DLC     000 04 01 0 0\
-    RDT%R   FMI     008 08 01 0 0\
-    RDT%R   TIME    016 16 01 0 0\
-    RDL%R   DATA0   000 08 01 2 0\
-    RDL%R   DATA1   008 08 01 2 0\
-    RDL%R   DATA2   016 08 01 2 0\
-    RDL%R   DATA3   024 08 01 2 0\
-    RDH%R   DATA4   000 08 01 2 0\
-    RDH%R   DATA5   008 08 01 2 0\
-    RDH%R   DATA6   016 08 01 2 0\
-    RDH%R   DATA7   024 08 01 2 0\
-    FMR     FINIT   000 01 01 0 0\
-    FM1R    FBM%    000 01 14 0 0\
-    FS1R    FSC%    000 01 14 0 0\
-    FFA1R   FFA%    000 01 14 0 0\
-    FA1R    FACT%   000 01 14 0 0\
+    reset   \x00\x01\x01\x01\x00\x00\
+    read    \x00\x02\x01\x01\x00\x00\
+    write   \x00\x03\x01\x01\x00\x00\
+    idle    \x00\x04\x01\x01\x00\x00\
+    bits    \x00\x05\x01\x01\x00\x00\
+    activity\x00\x06\x01\x01\x00\x00\
+    start   \x00\x07\x01\x01\x00\x00\
+    end     \x00\x08\x01\x01\x00\x00\
+    frame   \x00\x09\x01\x01\x00\x00\
+    error   \x00\x0A\x01\x01\x00\x00\
+    expect  \x00\x0B\x01\x01\x00\x00\
+    repeat  \x00\x0C\x01\x01\x00\x00\
+    done    \x00\x0D\x01\x01\x00\x00\
+    bytes   \x00\x0E\x01\x01\x00\x00\
+    good    \x00\x00\x01\x01\x00\x00\
+    stuff   \x00\x01\x01\x01\x00\x00\
+    form    \x00\x02\x01\x01\x00\x00\
+    ack     \x00\x03\x01\x01\x00\x00\
+    bit1    \x00\x04\x01\x01\x00\x00\
+    bit0    \x00\x05\x01\x01\x00\x00\
+    crc     \x00\x06\x01\x01\x00\x00\
+    lost    \x00\x07\x01\x01\x00\x00\
+    TX      \x00\x00\x01\x01\x00\x00\
+    FIFO0   \x00\x01\x01\x01\x00\x00\
+    FIFO1   \x00\x02\x01\x01\x00\x00\
+    SCE     \x00\x03\x01\x01\x00\x00\
+    none    \x00\x04\x01\x01\x00\x00\
+    refused \x00\x01\x01\x01\x00\x00\
+    lines   \x00\x02\x01\x01\x00\x00\
+    MCR     \x00\x00\x04\x01\x34\x0A\
+    MSR     \x00\x04\x04\x01\x3E\x09\
+    TSR     \x00\x08\x04\x01\x47\x16\
+    RF0R    \x00\x0C\x04\x01\x5D\x04\
+    RF1R    \x00\x10\x04\x01\x61\x04\
+    IER     \x00\x14\x04\x01\x65\x0E\
+    ESR     \x00\x18\x04\x01\x73\x06\
+    BTR     \x00\x1C\x04\x01\x79\x06\
+    TI%R    \x01\x80\x10\x03\x7F\x05\
+    TDT%R   \x01\x84\x10\x03\x84\x03\
+    TDL%R   \x01\x88\x10\x03\x87\x04\
+    TDH%R   \x01\x8C\x10\x03\x8B\x04\
+    RI%R    \x01\xB0\x10\x02\x8F\x04\
+    RDT%R   \x01\xB4\x10\x02\x93\x03\
+    RDL%R   \x01\xB8\x10\x02\x96\x04\
+    RDH%R   \x01\xBC\x10\x02\x9A\x04\
+    FMR     \x02\x00\x04\x01\x9E\x01\
+    FM1R    \x02\x04\x04\x01\x9F\x01\
+    FS1R    \x02\x0C\x04\x01\xA0\x01\
+    FFA1R   \x02\x14\x04\x01\xA1\x01\
+    FA1R    \x02\x1C\x04\x01\xA2\x01\
+    F%R1    \x02\x40\x08\x0E\x00\x00\
+    F%R2    \x02\x44\x08\x0E\x00\x00\
 ",
         i,
     )
+}
+
+// The fields of the registers.
+fn field(i: usize) -> [u8; 14]
+    ensures { λ r. ⌜ r ≡ listing.rowOf listing.fields i ⌝ }
+{
+    cut(
+        b"\
+    INRQ    \x00\x00\x01\x01\x00\x00\
+    SLEEP   \x00\x01\x01\x01\x00\x00\
+    TXFP    \x00\x02\x01\x01\x00\x00\
+    RFLM    \x00\x03\x01\x01\x00\x00\
+    NART    \x00\x04\x01\x01\x00\x00\
+    AWUM    \x00\x05\x01\x01\x00\x00\
+    ABOM    \x00\x06\x01\x01\x00\x00\
+    TTCM    \x00\x07\x01\x01\x00\x00\
+    RESET   \x00\x0F\x01\x01\x00\x00\
+    DBF     \x00\x10\x01\x01\x00\x00\
+    INAK    \x00\x00\x01\x01\x00\x00\
+    SLAK    \x00\x01\x01\x01\x00\x00\
+    ERRI    \x00\x02\x01\x01\x00\x00\
+    WKUI    \x00\x03\x01\x01\x00\x00\
+    SLAKI   \x00\x04\x01\x01\x00\x00\
+    TXM     \x00\x08\x01\x01\x00\x00\
+    RXM     \x00\x09\x01\x01\x00\x00\
+    SAMP    \x00\x0A\x01\x01\x00\x00\
+    RX      \x00\x0B\x01\x01\x00\x00\
+    RQCP0   \x00\x00\x01\x01\x00\x00\
+    TXOK0   \x00\x01\x01\x01\x00\x00\
+    ALST0   \x00\x02\x01\x01\x00\x00\
+    TERR0   \x00\x03\x01\x01\x00\x00\
+    ABRQ0   \x00\x07\x01\x01\x00\x00\
+    RQCP1   \x00\x08\x01\x01\x00\x00\
+    TXOK1   \x00\x09\x01\x01\x00\x00\
+    ALST1   \x00\x0A\x01\x01\x00\x00\
+    TERR1   \x00\x0B\x01\x01\x00\x00\
+    ABRQ1   \x00\x0F\x01\x01\x00\x00\
+    RQCP2   \x00\x10\x01\x01\x00\x00\
+    TXOK2   \x00\x11\x01\x01\x00\x00\
+    ALST2   \x00\x12\x01\x01\x00\x00\
+    TERR2   \x00\x13\x01\x01\x00\x00\
+    ABRQ2   \x00\x17\x01\x01\x00\x00\
+    CODE    \x00\x18\x02\x01\x00\x00\
+    TME0    \x00\x1A\x01\x01\x00\x00\
+    TME1    \x00\x1B\x01\x01\x00\x00\
+    TME2    \x00\x1C\x01\x01\x00\x00\
+    LOW0    \x00\x1D\x01\x01\x00\x00\
+    LOW1    \x00\x1E\x01\x01\x00\x00\
+    LOW2    \x00\x1F\x01\x01\x00\x00\
+    FMP0    \x00\x00\x02\x01\x00\x00\
+    FULL0   \x00\x03\x01\x01\x00\x00\
+    FOVR0   \x00\x04\x01\x01\x00\x00\
+    RFOM0   \x00\x05\x01\x01\x00\x00\
+    FMP1    \x00\x00\x02\x01\x00\x00\
+    FULL1   \x00\x03\x01\x01\x00\x00\
+    FOVR1   \x00\x04\x01\x01\x00\x00\
+    RFOM1   \x00\x05\x01\x01\x00\x00\
+    TMEIE   \x00\x00\x01\x01\x00\x00\
+    FMPIE0  \x00\x01\x01\x01\x00\x00\
+    FFIE0   \x00\x02\x01\x01\x00\x00\
+    FOVIE0  \x00\x03\x01\x01\x00\x00\
+    FMPIE1  \x00\x04\x01\x01\x00\x00\
+    FFIE1   \x00\x05\x01\x01\x00\x00\
+    FOVIE1  \x00\x06\x01\x01\x00\x00\
+    EWGIE   \x00\x08\x01\x01\x00\x00\
+    EPVIE   \x00\x09\x01\x01\x00\x00\
+    BOFIE   \x00\x0A\x01\x01\x00\x00\
+    LECIE   \x00\x0B\x01\x01\x00\x00\
+    ERRIE   \x00\x0F\x01\x01\x00\x00\
+    WKUIE   \x00\x10\x01\x01\x00\x00\
+    SLKIE   \x00\x11\x01\x01\x00\x00\
+    EWGF    \x00\x00\x01\x01\x00\x00\
+    EPVF    \x00\x01\x01\x01\x00\x00\
+    BOFF    \x00\x02\x01\x01\x00\x00\
+    LEC     \x00\x04\x03\x01\x00\x00\
+    TEC     \x00\x10\x08\x01\x00\x00\
+    REC     \x00\x18\x08\x01\x00\x00\
+    BRP     \x00\x00\x0A\x01\x00\x00\
+    TS1     \x00\x10\x04\x01\x00\x00\
+    TS2     \x00\x14\x03\x01\x00\x00\
+    SJW     \x00\x18\x02\x01\x00\x00\
+    LBKM    \x00\x1E\x01\x01\x00\x00\
+    SILM    \x00\x1F\x01\x01\x00\x00\
+    STID    \x00\x15\x0B\x01\x03\x01\
+    EXID    \x00\x03\x1D\x01\x08\x02\
+    IDE     \x00\x02\x01\x01\x00\x00\
+    RTR     \x00\x01\x01\x01\x00\x00\
+    TXRQ    \x00\x00\x01\x01\x00\x00\
+    DLC     \x00\x00\x04\x01\x00\x00\
+    TGT     \x00\x08\x01\x01\x00\x00\
+    TIME    \x00\x10\x10\x01\x00\x00\
+    DATA0   \x00\x00\x08\x01\x02\x00\
+    DATA1   \x00\x08\x08\x01\x02\x00\
+    DATA2   \x00\x10\x08\x01\x02\x00\
+    DATA3   \x00\x18\x08\x01\x02\x00\
+    DATA4   \x00\x00\x08\x01\x02\x00\
+    DATA5   \x00\x08\x08\x01\x02\x00\
+    DATA6   \x00\x10\x08\x01\x02\x00\
+    DATA7   \x00\x18\x08\x01\x02\x00\
+    STID    \x00\x15\x0B\x01\x03\x01\
+    EXID    \x00\x03\x1D\x01\x08\x02\
+    IDE     \x00\x02\x01\x01\x00\x00\
+    RTR     \x00\x01\x01\x01\x00\x00\
+    DLC     \x00\x00\x04\x01\x00\x00\
+    FMI     \x00\x08\x08\x01\x00\x00\
+    TIME    \x00\x10\x10\x01\x00\x00\
+    DATA0   \x00\x00\x08\x01\x02\x00\
+    DATA1   \x00\x08\x08\x01\x02\x00\
+    DATA2   \x00\x10\x08\x01\x02\x00\
+    DATA3   \x00\x18\x08\x01\x02\x00\
+    DATA4   \x00\x00\x08\x01\x02\x00\
+    DATA5   \x00\x08\x08\x01\x02\x00\
+    DATA6   \x00\x10\x08\x01\x02\x00\
+    DATA7   \x00\x18\x08\x01\x02\x00\
+    FINIT   \x00\x00\x01\x01\x00\x00\
+    FBM%    \x00\x00\x01\x0E\x00\x00\
+    FSC%    \x00\x00\x01\x0E\x00\x00\
+    FFA%    \x00\x00\x01\x0E\x00\x00\
+    FACT%   \x00\x00\x01\x0E\x00\x00\
+",
+        i,
+    )
+}
+
+// A row as bytes. Each part of the list has a function of its own, for a function stores all of its literals, whatever is asked.
+pub fn text(row: usize) -> [u8; 14]
+    ensures { λ r. ⌜ r ≡ listing.text row ⌝ }
+{
+    if row < 52 {
+        return general(row);
+    }
+    field(row - 52)
 }

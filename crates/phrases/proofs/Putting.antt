@@ -2,16 +2,19 @@
 use mathlib.Core.Bool.{Bool, true, false}
 use mathlib.Core.Path.{_≡_, refl, sym, ap, _∙_}
 use mathlib.Core.List.{List, [], _∷_, _++_}
-use Prim.Native.Nat.{ℕ, suc, _+_, _-_, _<_, _≤_}
+use Prim.Native.Nat.{ℕ, suc, _+_, _-_, _*_, _^_, _<_, _≤_}
+use native.Mathlib.Nat.{zero-mul}
 use native.Mathlib.Numerals.{add-one}
 use native.Mathlib.Omega.{arith}
 use lib.ListN.{length, getD, drop, drop-of-length-le}
 use lib.Seq.{drop-cons}
-use Rattle.names.specs.Table.{letter}
+use Rattle.names.specs.Table.{place}
 use Rattle.names.specs.declared.rows.Found.{Found}
+use borrow.Author.Tests.{le-leb, lt-leb, eq-eqb, ne-eqb}
+use Rattle.model.specs.Base.{pick}
 use Rattle.text.specs.Lines.{putAll, put-both}
 use Rattle.text.specs.declared.Line.{Line}
-use Rattle.phrases.specs.Names.{letterText, nameOn, nameText, fieldValue, placed, isHidden, amountText, fieldText, rowOn, ownFields, fieldsOn, allText, restOf, withField, withFields}
+use Rattle.phrases.specs.Names.{letterText, nameOn, nameText, fieldValue, placed, numberOf, fieldText, rowOn, rowFields, fieldsOn, allText, restOf, withField, withFields}
 use Rattle.phrases.specs.Frames.{pairText, pairsText}
 use Rattle.phrases.specs.declared.Said.{Said}
 
@@ -36,14 +39,24 @@ module _ (i j : ℕ) where
 
 -- ---- names
 
-module _ (m z : Line) (row index k : ℕ) where
-  pub name-on : (r : Line) → k < 8 → r ≡ putAll m (letterText (letter row k) index) → putAll m (nameOn row index k (8 - k)) ≡ z → putAll r (nameOn row index (k + 1) (8 - (k + 1))) ≡ z
+module _ (m z : Line) (t : List ℕ) (index k : ℕ) where
+  step : k < 8 → 32 < getD t k 0 → nameOn t index k (8 - k) ≡ letterText (getD t k 0) index ++ nameOn t index (k + 1) (8 - (k + 1))
   unfolding nameOn
-  name-on r h e q = on m r z (letterText (letter row k) index) (nameOn row index (k + 1) (8 - (k + 1))) (nameOn row index k (8 - k)) (ap (nameOn row index k) (left k 8 h)) e q
+  step h b = ap (nameOn t index k) (left k 8 h) ∙ ap (λ (x : Bool). pick x [] (letterText (getD t k 0) index ++ nameOn t index (k + 1) (8 - (k + 1)))) (lt-leb (getD t k 0) 32 b)
 
-  pub name-ended : 8 ≤ k → putAll m (nameOn row index k (8 - k)) ≡ z → m ≡ z
+  pub name-on : (r : Line) → k < 8 → 32 < getD t k 0 → r ≡ putAll m (letterText (getD t k 0) index) → putAll m (nameOn t index k (8 - k)) ≡ z
+      → putAll r (nameOn t index (k + 1) (8 - (k + 1))) ≡ z
+  name-on r h b e q = on m r z (letterText (getD t k 0) index) (nameOn t index (k + 1) (8 - (k + 1))) (nameOn t index k (8 - k)) (step h b) e q
+
+  pub name-blank : k < 8 → getD t k 0 ≤ 32 → putAll m (nameOn t index k (8 - k)) ≡ z → m ≡ z
   unfolding nameOn
-  name-ended h q = ended m z (nameOn row index k (8 - k)) (ap (nameOn row index k) (none-left k 8 h)) q
+  name-blank h b q =
+      ended m z (nameOn t index k (8 - k))
+      (ap (nameOn t index k) (left k 8 h) ∙ ap (λ (x : Bool). pick x [] (letterText (getD t k 0) index ++ nameOn t index (k + 1) (8 - (k + 1)))) (le-leb (getD t k 0) 32 b)) q
+
+  pub name-ended : 8 ≤ k → putAll m (nameOn t index k (8 - k)) ≡ z → m ≡ z
+  unfolding nameOn
+  name-ended h q = ended m z (nameOn t index k (8 - k)) (ap (nameOn t index k) (none-left k 8 h)) q
 
 -- ---- bytes
 
@@ -85,15 +98,29 @@ module _ (s z : Said) (w row i n : ℕ) where
   unfolding rowOn withFields
   row-ended h q = sym (ap (λ (x : List Found). withFields s x w) (ap (rowOn row i) (none-left i n h))) ∙ q
 
-module _ (s z : Said) (w register row n : ℕ) where
-  pub fields-on : (t : Said) → row < n → t ≡ withFields s (ownFields register row) w → withFields s (fieldsOn register row (n - row)) w ≡ z → withFields t (fieldsOn register (row + 1) (n - (row + 1))) w ≡ z
-  unfolding fieldsOn
-  fields-on t h e q =
-      fields-step s t z (ownFields register row) (fieldsOn register (row + 1) (n - (row + 1))) (fieldsOn register row (n - row)) w (ap (fieldsOn register row) (left row n h)) e q
+pub fields-begin : (s : Said) (w row n : ℕ) → withFields s (fieldsOn (row + 0) (n - 0)) w ≡ withFields s (fieldsOn row n) w
+fields-begin s w row n = rw (same, all)
+  where
+    same : row + 0 ≡ row
+    same = omega arith
 
-  pub fields-ended : n ≤ row → withFields s (fieldsOn register row (n - row)) w ≡ z → s ≡ z
+    all : n - 0 ≡ n
+    all = omega arith
+
+module _ (s z : Said) (w row k n : ℕ) where
+  next : k < n → fieldsOn (row + k) (n - k) ≡ rowFields (row + k) ++ fieldsOn (row + (k + 1)) (n - (k + 1))
+  unfolding fieldsOn
+  next h =
+      let e : row + k + 1 ≡ row + (k + 1) = omega arith in
+      ap (fieldsOn (row + k)) (left k n h) ∙ ap (λ (r : ℕ). rowFields (row + k) ++ fieldsOn r (n - (k + 1))) e
+
+  pub fields-on : (t : Said) → k < n → t ≡ withFields s (rowFields (row + k)) w → withFields s (fieldsOn (row + k) (n - k)) w ≡ z → withFields t (fieldsOn (row + (k + 1)) (n - (k + 1))) w ≡ z
+  fields-on t h e q =
+      fields-step s t z (rowFields (row + k)) (fieldsOn (row + (k + 1)) (n - (k + 1))) (fieldsOn (row + k) (n - k)) w (next h) e q
+
+  pub fields-ended : n ≤ k → withFields s (fieldsOn (row + k) (n - k)) w ≡ z → s ≡ z
   unfolding fieldsOn withFields
-  fields-ended h q = sym (ap (λ (x : List Found). withFields s x w) (ap (fieldsOn register row) (none-left row n h))) ∙ q
+  fields-ended h q = sym (ap (λ (x : List Found). withFields s x w) (ap (fieldsOn (row + k)) (none-left k n h))) ∙ q
 
 -- field by field, and all at once
 pub all-said : (s : Said) (fs : List Found) (w : ℕ) → withFields s fs w ≡ record { line = putAll (s .line) (allText fs w); rest = restOf fs w (s .rest) }
@@ -103,12 +130,18 @@ all-said s (f ∷ l) w = all-said (withField s f w) l w ∙ ap (λ (x : Line). r
 
 -- ---- one field
 
-module _ (s : Said) (f : Found) (w : ℕ) where
-  pub hidden : isHidden f w ≡ true → s ≡ withField s f w
-  unfolding withField fieldText putAll
-  hidden h = rw h
+none-taken : (n : ℕ) → n - 0 ≡ n
+none-taken n = omega arith
 
-  pub shown : (l : Line) (n : ℕ) → isHidden f w ≡ false → l ≡ putAll (s .line) (32 ∷ (nameText (f .row) (f .index) ++ amountText (f .row) (fieldValue f w)))
+module _ (s : Said) (f : Found) (w v : ℕ) (h : v ≡ fieldValue f w) where
+  pub hidden : v ≡ 0 → s ≡ withField s f w
+  unfolding withField fieldText putAll
+  hidden e =
+      let z : fieldValue f w ≡ 0 = sym h ∙ e in
+      let r : s .rest ≡ s .rest - placed f w = sym (ap (λ (x : ℕ). s .rest - x) (ap (λ (x : ℕ). x * 2 ^ place f) z ∙ zero-mul (2 ^ place f)) ∙ none-taken (s .rest)) in
+      rw (eq-eqb (fieldValue f w) 0 z) (ap (λ (n : ℕ). record { line = s .line; rest = n }) r)
+
+  pub shown : (l : Line) (n : ℕ) → (v ≡ 0 → ⊥) → l ≡ putAll (s .line) (32 ∷ (nameText (f .row) (f .index) ++ numberOf f (fieldValue f w)))
       → n ≡ s .rest - placed f w → record { line = l; rest = n } ≡ withField s f w
   unfolding withField fieldText
-  shown l n h e k = rw (h, e, k)
+  shown l n z e k = rw (ne-eqb (fieldValue f w) 0 (λ x. z (h ∙ x)), e, k)

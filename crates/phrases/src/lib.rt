@@ -1,14 +1,17 @@
 // A step as a line of lesson text: docs/LESSONS.md, "From bytes to text". All names come from the table of crate names.
 ghost use mathlib.Core.Path.{_≡_};
-ghost use Prim.Native.Nat.{_-_};
+ghost use Prim.Native.Nat.{_%_, _^_};
+ghost use Rattle.names.specs.Rows as rows;
 ghost use Rattle.text.specs.Lines as lines;
 ghost use Rattle.phrases.specs.Frames as framing;
 ghost use Rattle.phrases.specs.Names as naming;
 ghost use Rattle.phrases.specs.Steps as steps;
 use model::Step;
 use names::Group;
-use names::rows::Column;
 use names::rows::Found;
+use names::rows::Numbers;
+use names::rows::numbers_of;
+use names::scan::distance;
 use text::Line;
 use text::byte;
 use text::decimal;
@@ -19,27 +22,24 @@ mod frames; // a frame, and bytes as they are
 
 // ---- names
 
-fn letter(l: Line, b: u8, index: u32) -> Line
-    ensures { λ r. ⌜ r ≡ lines.putAll l (naming.letterText b index) ⌝ }
-{
-    if b == b' ' {
-        return l;
-    }
-    if b == b'%' {
-        return decimal(l, index as u64);
-    }
-    byte(l, b)
-}
-
 // A name of the table, with the index in place of the percent sign.
 pub fn name(l: Line, row: usize, index: u32) -> Line
     ensures { λ r. ⌜ r ≡ lines.putAll l (naming.nameText row index) ⌝ }
 {
+    let t = names::table::text(row);
     let mut m = l;
     let mut k: usize = 0;
     while k < 8 {
-        m = letter(m, names::letter(row, k), index);
+        let c = t[k];
         k += 1;
+        if c <= b' ' {
+            return m;
+        }
+        if c == b'%' {
+            m = decimal(m, index as u64);
+            continue;
+        }
+        m = byte(m, c);
     }
     m
 }
@@ -60,89 +60,74 @@ pub fn register(l: Line, offset: u32) -> Line
 // A line with fields, and what they leave of the word.
 struct Said {
     line: Line,
-    rest: u32,
-}
-
-fn value(f: Found, w: u32) -> u32
-    ensures { λ r. ⌜ r ≡ naming.fieldValue f w ⌝ }
-{
-    let at = names::place(f);
-    let size = names::number(f.row, Column::Size);
-    if 32 <= at {
-        return 0;
-    }
-    let low = at as u32;
-    let rest = w >> low;
-    if 32 <= size {
-        return rest;
-    }
-    rest % (1 << size)
-}
-
-// The field alone, where it stands in the word.
-fn placed(f: Found, w: u32) -> u32
-    ensures { λ r. ⌜ r ≡ naming.placed f w ⌝ }
-{
-    let at = names::place(f);
-    let n = value(f, w);
-    if 32 <= at {
-        return 0;
-    }
-    let low = at as u32;
-    n << low
-}
-
-fn is_shown(row: usize, w: u32) -> bool
-    ensures { λ r. ⌜ r ≡ naming.isShown row w ⌝ }
-{
-    let shown = names::number(row, Column::Shown);
-    let extended = bits::bit(2, w);
-    if shown == 1 {
-        return !extended;
-    }
-    if shown == 2 {
-        return extended;
-    }
-    true
+    rest: usize,
 }
 
 // The number of a field of several bits.
-fn amount(l: Line, row: usize, n: u32) -> Line
-    ensures { λ r. ⌜ r ≡ lines.putAll l (naming.amountText row n) ⌝ }
+fn amount(l: Line, size: u32, digits: u32, n: u32) -> Line
+    ensures { λ r. ⌜ r ≡ lines.putAll l (naming.amountText size digits n) ⌝ }
 {
-    if names::number(row, Column::Size) == 1 {
+    if size == 1 {
         return l;
     }
     let a = put(l, b" ");
-    let digits = names::number(row, Column::Digits);
     if digits == 0 {
         return decimal(a, n as u64);
     }
     hex(a, n, digits)
 }
 
-fn less(a: u32, b: u32) -> u32
-    ensures { λ r. ⌜ r ≡ a - b ⌝ }
+// The lowest bits of a number.
+fn lowest(n: u32, size: u32) -> u32
+    ensures { λ r. ⌜ r ≡ n % 2 ^ size ⌝ }
 {
-    if a < b {
-        return 0;
+    if 32 <= size {
+        return n;
     }
-    a - b
+    n % (1 << size)
 }
 
-// A field, where it isn't 0 and is shown.
-fn with_field(s: Said, f: Found, w: u32) -> Said
+// What is shown of a field: its number, and that number where it stands in the word. Both are 0 where nothing is.
+struct Field {
+    value: u32,
+    placed: u32,
+}
+
+fn field_of(f: Found, size: u32, shown: u32, w: u32) -> Field
+    requires { ⌜ (size ≡ rows.numbers (f .row) .size) × (shown ≡ rows.numbers (f .row) .shown) ⌝ }
+    ensures { λ r. ⌜ r ≡ naming.fieldOf f w ⌝ }
+{
+    let place = names::place(f);
+    let extended = (w >> 2) % 2 == 1;
+    let other = ((shown == 1) & extended) | ((shown == 2) & !extended);
+    if other | (32 <= place) {
+        return Field {
+            value: 0,
+            placed: 0,
+        };
+    }
+    let low = place as u32;
+    let v = lowest(w >> low, size);
+    let placed = v << low;
+    Field {
+        value: v,
+        placed: placed,
+    }
+}
+
+fn with_field(s: Said, n: Numbers, f: Found, w: u32) -> Said
+    requires { ⌜ n ≡ rows.numbers (f .row) ⌝ }
     ensures { λ r. ⌜ r ≡ naming.withField s f w ⌝ }
 {
-    let n = value(f, w);
-    if (n == 0) | !is_shown(f.row, w) {
+    let x = field_of(f, n.size, n.shown, w);
+    if x.value == 0 {
         return s;
     }
-    let rest = less(s.rest, placed(f, w));
+    let rest = distance(x.placed as usize, s.rest);
     let l = s.line;
     let a = name(put(l, b" "), f.row, f.index);
     Said {
-        line: amount(a, f.row, n),
+        line: amount(a, n.size, n.digits, x.value),
         rest: rest,
     }
 }
@@ -150,35 +135,34 @@ fn with_field(s: Said, f: Found, w: u32) -> Said
 fn with_row(s: Said, row: usize, w: u32) -> Said
     ensures { λ r. ⌜ r ≡ naming.withFields s (naming.rowFields row) w ⌝ }
 {
-    let count = names::number(row, Column::Count);
+    let n = numbers_of(row);
+    let count = n.count;
     let mut t = s;
     let mut i: u32 = 0;
     while i < count {
         let f = Found { row: row, index: i };
-        t = with_field(t, f, w);
+        t = with_field(t, n, f, w);
         i += 1;
     }
     t
 }
 
-// A row of the table, if it is a field of the register.
-fn with_own(s: Said, register: usize, row: usize, w: u32) -> Said
-    ensures { λ r. ⌜ r ≡ naming.withFields s (naming.ownFields register row) w ⌝ }
+fn all_fields(l: Line, offset: u32, w: u32) -> Said
+    ensures { λ r. ⌜ r ≡ naming.saidOf l (naming.fieldsAt offset) w ⌝ }
 {
-    if names::belongs(row, Group::Fields(register)) {
-        return with_row(s, row, w);
-    }
-    s
-}
-
-fn all_fields(l: Line, register: usize, w: u32) -> Said
-    ensures { λ r. ⌜ r ≡ naming.saidOf l (naming.fieldsOf register) w ⌝ }
-{
-    let mut t = Said { line: l, rest: w };
-    let mut row: usize = 52;
-    while row < 163 {
-        t = with_own(t, register, row, w);
-        row += 1;
+    let f = names::register_at(offset);
+    let x = names::rows_of(Group::Fields(f.row));
+    let first = x.first;
+    let count = x.count;
+    let mut t = Said {
+        line: l,
+        rest: w as usize,
+    };
+    let mut k: u32 = 0;
+    while k < count {
+        let row = first as usize + k as usize;
+        t = with_row(t, row, w);
+        k += 1;
     }
     t
 }
@@ -187,8 +171,7 @@ fn all_fields(l: Line, register: usize, w: u32) -> Said
 pub fn fields(l: Line, offset: u32, w: u32) -> Line
     ensures { λ r. ⌜ r ≡ lines.putAll l (naming.fieldsText offset w) ⌝ }
 {
-    let f = names::register_at(offset);
-    let t = all_fields(l, f.row, w);
+    let t = all_fields(l, offset, w);
     t.line
 }
 
@@ -214,8 +197,7 @@ fn written(l: Line, offset: u32, w: u32, full: bool) -> Line
     if full {
         return fields(number(l, w), offset, w);
     }
-    let f = names::register_at(offset);
-    let t = all_fields(l, f.row, w);
+    let t = all_fields(l, offset, w);
     if (t.rest == 0) & (w != 0) {
         return t.line;
     }

@@ -5,15 +5,12 @@ use borrow.Author.Needs.{needs}
 use Rattle.phrases.proofs.fields.Statement.{statement}
 use Rattle.phrases.proofs.fields.Tie as tie
 
-register-at-requires : tie.Need-register-at-requires
-register-at-requires c κs = search needs
-
 all-fields-requires : tie.Need-all-fields-requires
 all-fields-requires c κs = search needs
 
 returns : tie.Need-returns
 unfolding saidOf fieldsText
-returns c = rw (← c .before .before .register-at .ensures) (ap (λ (t : Said). t .line) (c .before .all-fields .ensures))
+returns c = ap (λ (t : Said). t .line) (c .before .all-fields .ensures)
 
 pub fields-spec : {M : Type 1} → statement M
-fields-spec = tie.close (tie.spec register-at-requires all-fields-requires returns)
+fields-spec = tie.close (tie.spec all-fields-requires returns)

@@ -1,22 +1,27 @@
+use mathlib.Core.Path.{ap, _∙_}
+use Prim.Native.Nat.{ℕ, _-_}
+use Rattle.names.specs.declared.rows.Numbers.{Numbers}
+use Rattle.text.specs.Lines.{putAll}
+use Rattle.phrases.specs.Names.{fieldOf}
+use Rattle.phrases.specs.declared.Field.{Field}
 use Rattle.phrases.proofs.Putting.{behind, hidden, shown}
+use Rattle.phrases.proofs.Words.{number-said}
 use borrow.Author.Needs.{needs}
 use Rattle.phrases.proofs.with_field.Statement.{statement}
 use Rattle.phrases.proofs.with_field.Tie as tie
 
-value-requires : tie.Need-value-requires
-value-requires c κs = search needs
-
-is-shown-requires : tie.Need-is-shown-requires
-is-shown-requires c κs = search needs
+field-of-requires : tie.Need-field-of-requires
+field-of-requires c κs = (ap (λ (x : Numbers). x .size) (c .pre), ap (λ (x : Numbers). x .shown) (c .pre))
 
 returns : tie.Need-returns
-returns c = hidden _ _ _ (rw (c .before .before .value .ensures, c .before .is-shown .ensures) at (c .if1 .taken))
+unfolding fieldOf
+returns c = hidden _ _ _ _ (ap (λ (x : Field). x .value) (c .before .before .field-of .ensures)) (c .if1 .taken)
 
-placed-requires : tie.Need-placed-requires
-placed-requires c κs = search needs
+cast-distance : tie.Need-cast-distance
+cast-distance c = search needs
 
-less-requires : tie.Need-less-requires
-less-requires c κs = search needs
+distance-requires : tie.Need-distance-requires
+distance-requires c κs = search needs
 
 slice-aggregate-put : tie.Need-slice-aggregate-put
 slice-aggregate-put c = search needs
@@ -31,22 +36,22 @@ amount-requires : tie.Need-amount-requires
 amount-requires c κs = search needs
 
 returns-2 : tie.Need-returns-2
+unfolding fieldOf
 returns-2 c =
-    let b = c .before .before .before .before .before in
-    let d = b .before .before in
-    shown _ _ _ _ _ (rw (d .before .before .value .ensures, d .before .is-shown .ensures) at (d .if1 .left))
-    (behind _ _ _ _ _ (c .before .before .put .ensures .1) (behind _ _ _ _ _ (c .before .name .ensures) (rw (← d .before .before .value .ensures) (c .amount .ensures))))
-    (rw (← b .before .placed .ensures) (b .less .ensures))
+    let e = c .before .before .before .before .before .before .before .before .before .field-of .ensures in
+    let v = ap (λ (x : Field). x .value) e in
+    shown _ _ _ _ v _ _ (c .before .before .before .before .before .before .before .if1 .left)
+    (behind _ _ _ _ _ (c .before .before .put .ensures .1) (behind _ _ _ _ _ (c .before .name .ensures) (c .amount .ensures ∙ ap (putAll (c .before .name .result)) (number-said _ _ _ _ v (c .before .before .before .before .before .before .before .before .before .before .pre)))))
+    (c .before .before .before .before .before .distance .ensures ∙ ap (λ (x : ℕ). c .before .before .before .before .before .before .before .before .before .before .args .s .rest - x) (ap (λ (x : Field). x .placed) e))
 
 pub with-field-spec : {M : Type 1} → statement M
 with-field-spec =
     tie.close
     (tie.spec
-    value-requires
-    is-shown-requires
+    field-of-requires
     returns
-    placed-requires
-    less-requires
+    cast-distance
+    distance-requires
     slice-aggregate-put
     put-requires
     name-requires

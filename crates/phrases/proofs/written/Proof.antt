@@ -17,9 +17,6 @@ returns : tie.Need-returns
 unfolding writtenText
 returns c = rw (c .before .before .if1 .taken) (behind _ _ _ _ _ (c .before .number .ensures) (c .fields .ensures))
 
-register-at-requires : tie.Need-register-at-requires
-register-at-requires c κs = search needs
-
 all-fields-requires : tie.Need-all-fields-requires
 all-fields-requires c κs = search needs
 
@@ -27,7 +24,7 @@ returns-2 : tie.Need-returns-2
 unfolding writtenText saidOf fieldsText isSaid
 returns-2 c =
     let b = c .before .before .before in
-    rw (b .before .before .if1 .left, ← b .before .register-at .ensures, rw (b .all-fields .ensures) at (c .before .if2 .taken)) (ap (λ (t : Said). t .line) (b .all-fields .ensures))
+    rw (b .before .if1 .left, rw (b .all-fields .ensures) at (c .before .if2 .taken)) (ap (λ (t : Said). t .line) (b .all-fields .ensures))
 
 number-requires-2 : tie.Need-number-requires-2
 number-requires-2 c κs = search needs
@@ -36,7 +33,7 @@ returns-3 : tie.Need-returns-3
 unfolding writtenText saidOf isSaid
 returns-3 c =
     let b = c .before .before .before in
-    rw (b .before .before .if1 .left, ← b .before .register-at .ensures, rw (b .all-fields .ensures) at (c .before .if2 .left)) (c .number2 .ensures)
+    rw (b .before .if1 .left, rw (b .all-fields .ensures) at (c .before .if2 .left)) (c .number2 .ensures)
 
 pub written-spec : {M : Type 1} → statement M
 written-spec =
@@ -45,7 +42,6 @@ written-spec =
     number-requires
     fields-requires
     returns
-    register-at-requires
     all-fields-requires
     returns-2
     number-requires-2

@@ -1,4 +1,4 @@
-use Rattle.names.proofs.Loops.{run-on, run-stops, run-ended}
+use Rattle.names.proofs.Loops.{inside, run-on, run-stops, run-ended}
 use borrow.Author.Tests.{not-true, not-false}
 use mathlib.Core.Path.{_≡_, refl, sym, ap, _∙_}
 use Prim.Native.Nat.{_-_}
@@ -18,17 +18,18 @@ loop-holds : tie.Need-loop-holds Inv-loop μ-loop
 unfolding scan.runEnd
 loop-holds c = refl
 
-byte-at-requires : tie.Need-byte-at-requires Inv-loop μ-loop
-byte-at-requires c κs = search needs
+shared-slice-read-is-of : tie.Need-shared-slice-read-is-of Inv-loop μ-loop
+shared-slice-read-is-of c = search needs
 
 is-of-requires : tie.Need-is-of-requires Inv-loop μ-loop
 is-of-requires c κs = search needs
 
 returns : tie.Need-returns Inv-loop μ-loop
+unfolding scan.byteAt
 returns c =
     let a = c .before .before .before .before .before .before .args in
     let l = c .before .before .before .before .loop in
-    sym (run-stops (a .s .now) (l .i) (length (a .s .now)) (a .k) (c .before .before .before .loop-test .taken) (sym (c .before .is-of .ensures ∙ ap (scan.isOf (a .k)) (c .before .before .byte-at .ensures)) ∙ not-true (c .before .is-of .result) (c .if1 .taken))) ∙ l .inv
+    sym (run-stops (a .s .now) (l .i) (length (a .s .now)) (a .k) (c .before .before .before .loop-test .taken) (sym (c .before .is-of .ensures ∙ ap (scan.isOf (a .k)) (inside (a .s .now) (l .i) 0 32 (c .before .before .before .loop-test .taken))) ∙ not-true (c .before .is-of .result) (c .if1 .taken))) ∙ l .inv
 
 add-i : tie.Need-add-i Inv-loop μ-loop
 add-i c = search needs
@@ -37,10 +38,11 @@ loop-less : tie.Need-loop-less Inv-loop μ-loop
 loop-less c = search needs
 
 loop-again : tie.Need-loop-again Inv-loop μ-loop
+unfolding scan.byteAt
 loop-again c =
     let a = c .before .before .before .before .before .before .args in
     let l = c .before .before .before .before .loop in
-    sym (run-on (a .s .now) (l .i) (length (a .s .now)) (a .k) (c .before .before .before .loop-test .taken) (sym (c .before .is-of .ensures ∙ ap (scan.isOf (a .k)) (c .before .before .byte-at .ensures)) ∙ not-false (c .before .is-of .result) (c .if1 .left))) ∙ l .inv
+    sym (run-on (a .s .now) (l .i) (length (a .s .now)) (a .k) (c .before .before .before .loop-test .taken) (sym (c .before .is-of .ensures ∙ ap (scan.isOf (a .k)) (inside (a .s .now) (l .i) 0 32 (c .before .before .before .loop-test .taken))) ∙ not-false (c .before .is-of .result) (c .if1 .left))) ∙ l .inv
 
 returns-2 : tie.Need-returns-2 Inv-loop μ-loop
 returns-2 c =
@@ -55,7 +57,7 @@ run-end-spec =
     Inv-loop
     μ-loop
     loop-holds
-    byte-at-requires
+    shared-slice-read-is-of
     is-of-requires
     returns
     add-i

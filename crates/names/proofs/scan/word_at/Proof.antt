@@ -10,12 +10,9 @@ run-end-requires c κs = search needs
 byte-at-requires : tie.Need-byte-at-requires
 byte-at-requires c κs = search needs
 
-plain-requires : tie.Need-plain-requires
-plain-requires c κs = search needs
-
 returns : tie.Need-returns
 unfolding scan.wordAt
-returns c = simp (c .plain .ensures, eq-eqb _ _ (c .before .if1 .taken), ← (c .before .before .byte-at .ensures), ← (c .before .before .before .run-end .ensures))
+returns c = simp (eq-eqb _ _ (c .if1 .taken), ← (c .before .byte-at .ensures), ← (c .before .before .run-end .ensures))
 
 run-end-requires-2 : tie.Need-run-end-requires-2
 run-end-requires-2 c κs = search needs
@@ -23,15 +20,12 @@ run-end-requires-2 c κs = search needs
 run-end-requires-3 : tie.Need-run-end-requires-3
 run-end-requires-3 c κs = search needs
 
-least-requires : tie.Need-least-requires
-least-requires c κs = search needs
-
 run-end-requires-4 : tie.Need-run-end-requires-4
 run-end-requires-4 c κs = search needs
 
 returns-2 : tie.Need-returns-2
 unfolding scan.wordAt
-returns-2 c = simp (← (c .run-end4 .ensures), ← (c .before .least .ensures .0), ← (c .before .before .run-end3 .ensures), ← (c .before .before .before .run-end2 .ensures), ne-eqb _ _ (c .before .before .before .before .if1 .left), ← (c .before .before .before .before .before .byte-at .ensures), ← (c .before .before .before .before .before .before .run-end .ensures))
+returns-2 c = simp (← (c .run-end4 .ensures), ← (c .before .run-end3 .ensures), ← (c .before .before .run-end2 .ensures), ne-eqb _ _ (c .before .before .before .if1 .left), ← (c .before .before .before .before .byte-at .ensures), ← (c .before .before .before .before .before .run-end .ensures))
 
 pub word-at-spec : {M : Type 1} → statement M
 word-at-spec =
@@ -39,10 +33,8 @@ word-at-spec =
     (tie.spec
     run-end-requires
     byte-at-requires
-    plain-requires
     returns
     run-end-requires-2
     run-end-requires-3
-    least-requires
     run-end-requires-4
     returns-2)

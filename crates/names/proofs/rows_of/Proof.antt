@@ -1,7 +1,7 @@
 use Rattle.names.specs.Table as tables
 use borrow.Author.Needs.{needs}
-use Rattle.names.proofs.group_at.Statement.{statement}
-use Rattle.names.proofs.group_at.Tie as tie
+use Rattle.names.proofs.rows_of.Statement.{statement}
+use Rattle.names.proofs.rows_of.Tie as tie
 
 enum-told : tie.Need-enum-told
 enum-told c = search needs
@@ -9,8 +9,8 @@ enum-told c = search needs
 enum-known-g : tie.Need-enum-known-g
 enum-known-g c = search needs
 
-name-at-requires : tie.Need-name-at-requires
-name-at-requires c κs = search needs
+numbers-of-requires : tie.Need-numbers-of-requires
+numbers-of-requires c κs = search needs
 
 enum-told-2 : tie.Need-enum-told-2
 enum-told-2 c = search needs
@@ -25,36 +25,36 @@ enum-told-5 : tie.Need-enum-told-5
 enum-told-5 c = search needs
 
 returns : tie.Need-returns
-unfolding tables.groupAt
+unfolding tables.rowsOf
 returns c = simp (c .enum-told .given .1)
 
 returns-2 : tie.Need-returns-2
-unfolding tables.groupAt
-returns-2 c = simp (c .name-at .ensures, c .before .before .g .given .1)
+unfolding tables.rowsOf
+returns-2 c = simp (c .numbers-of .ensures, c .before .before .g .given .1)
 
 returns-3 : tie.Need-returns-3
-unfolding tables.groupAt
+unfolding tables.rowsOf
 returns-3 c = simp (c .enum-told2 .given .1)
 
 returns-4 : tie.Need-returns-4
-unfolding tables.groupAt
+unfolding tables.rowsOf
 returns-4 c = simp (c .enum-told3 .given .1)
 
 returns-5 : tie.Need-returns-5
-unfolding tables.groupAt
+unfolding tables.rowsOf
 returns-5 c = simp (c .enum-told4 .given .1)
 
 returns-6 : tie.Need-returns-6
-unfolding tables.groupAt
+unfolding tables.rowsOf
 returns-6 c = simp (c .enum-told5 .given .1)
 
-pub group-at-spec : {M : Type 1} → statement M
-group-at-spec =
+pub rows-of-spec : {M : Type 1} → statement M
+rows-of-spec =
     tie.close
     (tie.spec
     enum-told
     enum-known-g
-    name-at-requires
+    numbers-of-requires
     enum-told-2
     enum-told-3
     enum-told-4
