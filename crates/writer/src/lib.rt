@@ -1,4 +1,4 @@
-// Bench scripts written: a step to its record in a lent space. Module replies reads replies back.
+// Bench scripts written: a step to its record in a lent space.
 ghost use mathlib.Core.Path.{_≡_};
 ghost use Prim.Native.Nat.{_≤_};
 ghost use lib.ListN.{length};
@@ -10,7 +10,6 @@ use model::WideStep;
 use model::Written;
 
 mod put; // put.rt: the bytes of a record
-pub mod replies; // replies.rt: code, lines and word of a reply
 
 // The record of a hardware reset, with which a lesson opens.
 pub const OPENING: [u8; 3] = *b"\x01\x00\x00";

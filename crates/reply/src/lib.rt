@@ -1,4 +1,4 @@
-// Replies read back.
+// Replies read back: code, lines and word of a reply.
 ghost use mathlib.Core.Path.{_≡_};
 ghost use Rattle.model.specs.Replies as reading;
 use model::Answer;

@@ -7,8 +7,8 @@ use lib.ListN.{length}
 use borrow.Author.Tests.{eq-eqb, ne-eqb, lt-ltb, le-ltb}
 use Rattle.model.specs.Replies.{replyReading}
 use borrow.Author.Needs.{needs}
-use Rattle.writer.proofs.replies.reading.Statement.{statement}
-use Rattle.writer.proofs.replies.reading.Tie as tie
+use Rattle.reply.proofs.reading.Statement.{statement}
+use Rattle.reply.proofs.reading.Tie as tie
 
 least-requires : tie.Need-least-requires
 least-requires c κs = search needs
