@@ -1,4 +1,4 @@
-// Numbers in a script, low byte first, and the step of a frame.
+// Numbers of two and four bytes, low byte first, and the step of a frame.
 ghost use mathlib.Core.Path.{_≡_};
 ghost use Prim.Native.Nat.{_+_, _*_, _≤_};
 ghost use lib.ListN.{length};
@@ -11,6 +11,12 @@ pub fn pair(low: u8, high: u8) -> u16
     ensures { λ r. ⌜ r ≡ low + high * 256 ⌝ }
 {
     (low as u16) + (high as u16) * 256
+}
+
+pub fn word(a: u8, b: u8, c: u8, d: u8) -> u32
+    ensures { λ r. ⌜ r ≡ a + b * 256 + (c + d * 256) * 65536 ⌝ }
+{
+    (pair(a, b) as u32) + (pair(c, d) as u32) * 65536
 }
 
 pub(crate) fn number16(b: &[u8], i: usize) -> u16

@@ -4,7 +4,7 @@ ghost use Rattle.model.specs.Script as scripts;
 use model::Reading;
 use model::Step;
 
-pub mod decode; // decode.rt: numbers in a script, and a frame
+pub mod decode; // decode.rt: numbers of two and four bytes, which other readers need too, and a frame
 
 // The length of the body that a tag has.
 pub fn body_length(tag: u8) -> usize

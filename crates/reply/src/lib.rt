@@ -1,16 +1,10 @@
 // Replies read back: code, lines and word of a reply.
 ghost use mathlib.Core.Path.{_≡_};
-ghost use Prim.Native.Nat.{_+_, _*_};
 ghost use Rattle.model.specs.Replies as reading;
 use model::Answer;
 use model::ReplyReading;
 use records::decode::pair;
-
-fn word(a: u8, b: u8, c: u8, d: u8) -> u32
-    ensures { λ r. ⌜ r ≡ a + b * 256 + (c + d * 256) * 65536 ⌝ }
-{
-    (pair(a, b) as u32) + (pair(c, d) as u32) * 65536
-}
+use records::decode::word;
 
 // The reply that begins at a place.
 pub fn reading(replies: &[u8], place: usize) -> ReplyReading
