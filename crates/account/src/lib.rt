@@ -38,21 +38,18 @@ pub fn view_of(c: Core) -> [u32; 12]
     ensures { λ r. ⌜ r ≡ views.viewOf c ⌝ }
 {
     let k = c.control;
-    let e = c.errors;
     let q = c.transmit.queue;
-    let f = c.fifo0;
-    let g = c.fifo1;
     let s = q.transmitting;
     let msr = control::msr_word(k, queue::is_nobody(s));
     [
         mailbox_state(q, Mailbox::M0),
         mailbox_state(q, Mailbox::M1),
         mailbox_state(q, Mailbox::M2),
-        receive::rfr_word(f),
-        receive::rfr_word(g),
-        e.tec as u32,
-        e.rec as u32,
-        control::esr_word(e) % 8,
+        receive::rfr_word(c.fifo0),
+        receive::rfr_word(c.fifo1),
+        c.errors.tec as u32,
+        c.errors.rec as u32,
+        control::esr_word(c.errors) % 8,
         k.recovery as u32,
         msr % 4,
         msr / 4 % 8,
@@ -101,16 +98,8 @@ fn taken_by(g: Filters, banks: &[u32; 28], e: Step) -> Taken
     ensures { λ r. ⌜ r ≡ views.takenBy g (now (banks .entry)) e ⌝ }
 {
     match e {
-        Step::Reset => Taken { by: 0, filter: 0 },
-        Step::Read(_) => Taken { by: 0, filter: 0 },
-        Step::Write(_, _) => Taken { by: 0, filter: 0 },
-        Step::Idle => Taken { by: 0, filter: 0 },
-        Step::BitTimes(_) => Taken { by: 0, filter: 0 },
-        Step::Activity => Taken { by: 0, filter: 0 },
-        Step::Start => Taken { by: 0, filter: 0 },
-        Step::Outcome(_) => Taken { by: 0, filter: 0 },
         Step::Receive(x) => taken_as(filter::acceptance(g, banks, x.identifier)),
-        Step::ReceiveError(_, _) => Taken { by: 0, filter: 0 },
+        _ => Taken { by: 0, filter: 0 },
     }
 }
 
@@ -131,20 +120,17 @@ pub struct Account {
 pub fn account_of(z: Controller, e: Step, a: Stepped) -> Account
     ensures { λ r. ⌜ r ≡ accounts.accountOf z e a ⌝ }
 {
-    let c = z.core;
-    let g = c.filters;
     let banks = z.banks;
-    let d = a.controller.core;
     let place = places::of_step(e);
-    let bus = reasons::bus_of(c);
+    let bus = reasons::bus_of(z.core);
     Account {
         place: place,
         code: a.code,
         lines: a.lines,
         word: a.word,
         reason: reasons::of_step(bus, e, place),
-        taken: taken_by(g, &banks, e),
-        old: view_of(c),
-        new: view_of(d),
+        taken: taken_by(z.core.filters, &banks, e),
+        old: view_of(z.core),
+        new: view_of(a.controller.core),
     }
 }

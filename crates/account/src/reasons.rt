@@ -60,24 +60,17 @@ pub fn bus_of(c: Core) -> Bus
     ensures { λ r. ⌜ r ≡ reasons.busOf c ⌝ }
 {
     let k = c.control;
-    let e = c.errors;
     let q = c.transmit.queue;
     let m = k.mode;
     let o = q.order;
     let s = q.transmitting;
     Bus {
         normal: control::is_normal(m),
-        off: control::boff(e),
+        off: control::boff(c.errors),
         own: !queue::is_nobody(s),
         empty: queue::is_empty(o),
         loopback: control::lbkm(k),
     }
-}
-
-fn of_offset(o: u16) -> u32
-    ensures { λ r. ⌜ r ≡ reasons.ofOffset o ⌝ }
-{
-    bits::pick_u32(o % 4 == 0, NO_REGISTER, MISALIGNED)
 }
 
 // By the number of the register's name: what keeps each register from being written.
@@ -85,7 +78,7 @@ fn of_write(kind: u32, o: u16) -> u32
     ensures { λ r. ⌜ r ≡ reasons.ofWrite kind o ⌝ }
 {
     if kind == 18 {
-        return of_offset(o);
+        return bits::pick_u32(o % 4 == 0, NO_REGISTER, MISALIGNED);
     }
     let keeps = [
         26,
@@ -130,12 +123,6 @@ fn of_bus(b: Bus, rest: u32) -> u32
         return BUS_OFF;
     }
     bits::pick_u32(b.own, OWN_FRAME, rest)
-}
-
-fn of_start(b: Bus) -> u32
-    ensures { λ r. ⌜ r ≡ reasons.ofStart b ⌝ }
-{
-    of_bus(b, bits::pick_u32(b.empty, NONE_PENDING, SILENT))
 }
 
 fn of_reception(b: Bus) -> u32
@@ -186,12 +173,12 @@ pub fn of_step(b: Bus, e: Step, g: Place) -> u32
 {
     match e {
         Step::Reset => NOTHING,
-        Step::Read(o) => of_offset(o),
+        Step::Read(o) => bits::pick_u32(o % 4 == 0, NO_REGISTER, MISALIGNED),
         Step::Write(o, _) => of_write(g.kind, o),
         Step::Idle => OWN_FRAME,
         Step::BitTimes(_) => NO_BIT_TIMES,
         Step::Activity => NOT_ASLEEP,
-        Step::Start => of_start(b),
+        Step::Start => of_bus(b, bits::pick_u32(b.empty, NONE_PENDING, SILENT)),
         Step::Outcome(r) => of_outcome(b.own, r),
         Step::Receive(x) => of_frame(b, x),
         Step::ReceiveError(k, n) => of_error(b, k, n),

@@ -6,12 +6,13 @@ use Rattle.text.specs.Numbers.{digits, decimalOn}
 use Rattle.phrases.specs.Names.{letterText, nameOn, nameText, registerText, amountText, fieldText, rowOn, rowFields, fieldsOn, fieldsOf, allText, restOf, fieldsText, isSaid}
 use Rattle.phrases.specs.Frames.{pairText, pairsText, bytesText, isWorded, identifierText, remoteText, dataText, payloadText, codeText, wordedText, remarkText, unwordedText, frameText}
 use Rattle.phrases.specs.Steps.{writtenText, writeText, resultText, errorText, stepText}
-use Rattle.lesson_promises.specs.Telling.{Steps, Registers, Writes, Fields, Frames, Bytes, Samples}
+use Rattle.phrases.specs.Lines.{lineText, linesOn, linesText}
+use Rattle.lesson_promises.specs.Telling.{Steps, Registers, Writes, Fields, Frames, Bytes, Lines, Samples}
 use Rattle.lesson_promises.proofs.ToldNames.{lookups}
 
 -- what a text unfolds to
 unfoldable texts : Unit {0}
-unfolding lookups digits decimalOn letterText nameOn nameText registerText amountText fieldText rowOn rowFields fieldsOn fieldsOf allText restOf fieldsText isSaid writtenText writeText resultText errorText stepText pairText pairsText bytesText isWorded identifierText remoteText dataText payloadText codeText wordedText remarkText unwordedText frameText malformed dataBytes bytesKept fieldBytes bytesOf
+unfolding lookups digits decimalOn letterText nameOn nameText registerText amountText fieldText rowOn rowFields fieldsOn fieldsOf allText restOf fieldsText isSaid writtenText writeText resultText errorText stepText lineText linesOn linesText pairText pairsText bytesText isWorded identifierText remoteText dataText payloadText codeText wordedText remarkText unwordedText frameText malformed dataBytes bytesKept fieldBytes bytesOf
 texts = tt
 
 steps : Steps
@@ -116,5 +117,15 @@ bytes = record {
   none = refl;
 }
 
+lines : Lines
+unfolding texts
+lines = record {
+  none = refl;
+  first = refl;
+  some = refl;
+  all = refl;
+  past = refl;
+}
+
 pub samples : Samples
-samples = record { steps = steps; registers = registers; writes = writes; fields = fields; frames = frames; bytes = bytes }
+samples = record { steps = steps; registers = registers; writes = writes; fields = fields; frames = frames; bytes = bytes; lines = lines }

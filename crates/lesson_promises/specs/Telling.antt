@@ -10,6 +10,7 @@ use Rattle.names.specs.Table as tables
 use Rattle.phrases.specs.Names.{nameText, registerText, fieldsText}
 use Rattle.phrases.specs.Frames.{bytesText}
 use Rattle.phrases.specs.Steps.{stepText}
+use Rattle.phrases.specs.Lines.{linesText}
 
 -- a step is the line, with the number of a written word or not
 abbrev pub Says : Step → String → Type 0
@@ -109,6 +110,14 @@ pub record Bytes : Type 0 where
   pub some : bytesText (0x0B ∷ 0x00 ∷ 0x1C ∷ []) ≡ tables.bytes "bytes 0B 00 1C"
   pub none : bytesText [] ≡ tables.bytes "bytes"
 
+-- interrupt lines; a byte has no more than four
+pub record Lines : Type 0 where
+  pub none : linesText 0 ≡ []
+  pub first : linesText 1 ≡ tables.bytes " TX"
+  pub some : linesText 10 ≡ tables.bytes " FIFO0 SCE"
+  pub all : linesText 15 ≡ tables.bytes " TX FIFO0 FIFO1 SCE"
+  pub past : linesText 0xF4 ≡ tables.bytes " FIFO1"
+
 pub record Samples : Type 0 where
   pub steps : Steps
   pub registers : Registers
@@ -116,3 +125,4 @@ pub record Samples : Type 0 where
   pub fields : Fields
   pub frames : Frames
   pub bytes : Bytes
+  pub lines : Lines

@@ -4,6 +4,7 @@ ghost use Prim.Native.Nat.{_%_, _^_};
 ghost use Rattle.names.specs.Rows as rows;
 ghost use Rattle.text.specs.Lines as lines;
 ghost use Rattle.phrases.specs.Frames as framing;
+ghost use Rattle.phrases.specs.Lines as told;
 ghost use Rattle.phrases.specs.Names as naming;
 ghost use Rattle.phrases.specs.Steps as steps;
 use model::Step;
@@ -249,4 +250,21 @@ pub fn bytes(l: Line, record: &[u8]) -> Line
     ensures { λ r. ⌜ r ≡ lines.putAll l (framing.bytesText (now («record» .entry))) ⌝ }
 {
     frames::bytes(l, record)
+}
+
+// ---- interrupt lines
+
+// Those of the byte that are up, each with a blank in front.
+pub fn lines(l: Line, up: u8) -> Line
+    ensures { λ r. ⌜ r ≡ lines.putAll l (told.linesText up) ⌝ }
+{
+    let mut m = l;
+    let mut i: u8 = 0;
+    while i < 4 {
+        if (up >> i) % 2 == 1 {
+            m = name(byte(m, b' '), 22 + i as usize, 0);
+        }
+        i += 1;
+    }
+    m
 }

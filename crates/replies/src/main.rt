@@ -40,7 +40,7 @@ fn lines(l: Line, up: u8) -> Line {
     if 15 < up {
         return text::hex(put(l, b" "), up as u32, 2);
     }
-    text::fields(l, b"TX FIFO0 FIFO1 SCE", 0, up as u32, 0)
+    phrases::lines(l, up)
 }
 
 fn row(n: u64, a: Answer) -> Line {
@@ -197,7 +197,7 @@ fn round(p: Progress, space: &mut [u8], out: &mut [u8]) -> Progress {
     if rest.len() == 0 {
         return stopped(p);
     }
-    let x = writer::replies::reading(rest, 0);
+    let x = reply::reading(rest, 0);
     match x {
         ReplyReading::Malformed(code) => broken(p, code, rest),
         ReplyReading::Said(a, _) => told(p, a, out),

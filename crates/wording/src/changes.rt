@@ -2,84 +2,55 @@
 use account::Taken;
 use text::Line;
 use text::column;
-use text::fields;
 use text::said;
 
 const CHANGED_COLUMN: usize = 123;
 
-// The part of the table that speaks of thing i with the value w.
+// The part of the table that speaks of thing i with the value w: of a mailbox by its state, of a FIFO by FULL and FOVR, of EWGF,
+// EPVF and BOFF, the mode and the flags by their bits.
 fn part(i: usize, w: u32) -> u32 {
-    let first = [0, 0, 0, 3, 4, 5, 6, 7, 11, 12, 15, 17];
-    if 12 <= i {
-        return 0;
+    match i {
+        0 => w % 4,
+        1 => 3 + w % 4,
+        2 => 6 + w % 4,
+        3 => 9 + w / 8 % 4,
+        4 => 13 + w / 8 % 4,
+        5 => 17,
+        6 => 18,
+        7 => 19 + w % 8,
+        8 => 27,
+        9 => 28 + w % 4,
+        10 => 31 + w % 8,
+        _ => 39,
     }
-    std::num::wrapping_add_u32(first[i], further(i, w))
 }
 
-// How far behind the first part for this thing: by the state of a mailbox, EWGF, EPVF and BOFF, the mode, whether there are flags.
-fn further(i: usize, w: u32) -> u32 {
-    if (i < 3) | (i == 9) {
-        return w;
-    }
-    if i == 7 {
-        return u32::count_ones(w);
-    }
-    bits::one((i == 10) & (w != 0))
-}
-
-// The number to say: of a mailbox, of the frames in a FIFO, or the value itself.
-fn number(i: usize, w: u32) -> u64 {
-    if i < 3 {
-        return i as u64;
-    }
-    if i < 5 {
-        return (w % 4) as u64;
-    }
-    w as u64
-}
-
-// Thing i with its new value, where it is changed; a comma in front of all but the first item, which begins at `start`.
-fn item(l: Line, start: usize, changed: bool, i: usize, w: u32) -> Line {
-    if !changed {
-        return l;
-    }
-    let which = part(i, w);
-    let a = said(l, b"|, ", bits::one(start < l.at), 0);
-    let b = said(
-        a,
-        b"mailbox % empty|mailbox % pending|mailbox % on the wire|FIFO0 %/3|FIFO1 %/3|TEC %|REC %|error active|error warning|error passive|bus-off|recovery %/128|mode Normal|mode Initialization|mode Sleep|flags none|flags|timer %",
-        which,
-        number(i, w),
-    );
-    fields(
-        b,
-        b"|||..- FULL OVR|..- FULL OVR||||||||||||ERRI WKUI SLAKI",
-        which,
-        w,
-        0,
+// Thing i with its new value; a comma in front of all but the first.
+fn item(l: Line, comma: u32, i: usize, w: u32) -> Line {
+    said(
+        said(l, b"|, |, |, ", comma, 0),
+        b"mailbox 0 empty|mailbox 0 pending|mailbox 0 on the wire|mailbox 1 empty|mailbox 1 pending|mailbox 1 on the wire|mailbox 2 empty|mailbox 2 pending|mailbox 2 on the wire|FIFO0 %/3|FIFO0 %/3 FULL|FIFO0 %/3 OVR|FIFO0 %/3 FULL OVR|FIFO1 %/3|FIFO1 %/3 FULL|FIFO1 %/3 OVR|FIFO1 %/3 FULL OVR|TEC %|REC %|error active|error warning||error passive||||bus-off|recovery %/128|mode Normal|mode Initialization|mode Sleep|flags none|flags ERRI|flags WKUI|flags ERRI WKUI|flags SLAKI|flags ERRI SLAKI|flags WKUI SLAKI|flags ERRI WKUI SLAKI|timer %",
+        part(i, w),
+        bits::pick_u32((i == 3) | (i == 4), w % 4, w) as u64,
     )
 }
 
-fn items(l: Line, start: usize, old: [u32; 12], new: [u32; 12]) -> Line {
-    let changed = account::changes(old, new);
-    let mut m = l;
-    for i in 0..12 {
-        m = item(m, start, changed[i], i, new[i]);
-    }
-    m
-}
-
-pub(crate) fn told(l: Line, t: Taken, old: [u32; 12], new: [u32; 12]) -> Line {
-    let a = column(l, CHANGED_COLUMN);
-    let b = said(
-        a,
+pub(crate) fn told(l: Line, t: Taken, changed: [bool; 12], new: [u32; 12]) -> Line {
+    let mut comma = t.by;
+    let mut m = said(
+        column(l, CHANGED_COLUMN),
         b"|no filter takes it|filter % of FIFO0|filter % of FIFO1",
         t.by,
         t.filter as u64,
     );
-    let c = items(b, a.at, old, new);
-    if a.at < c.at {
-        return c;
+    for i in 0..12 {
+        if changed[i] {
+            m = item(m, comma, i, new[i]);
+            comma = 1;
+        }
     }
-    l
+    if comma == 0 {
+        return l;
+    }
+    m
 }

@@ -30,15 +30,6 @@ pub fn head() -> Line
 
 // ---- the answer
 
-// The word of a read, the mailbox of a start, or nothing to say.
-fn done(l: Line, e: Step, word: u32) -> Line {
-    match e {
-        Step::Read(o) => phrases::fields(text::hex(l, word, 8), o as u32, word),
-        Step::Start => said(l, b"mailbox %", 0, word as u64),
-        _ => byte(l, b'-'),
-    }
-}
-
 // The code and the reason, with the number of its mailbox or bank.
 pub fn refused(l: Line, code: u8, reason: u32, index: u32) -> Line
     ensures { λ r. ⌜ lines.Extends l r ⌝ }
@@ -59,23 +50,20 @@ pub fn lines_up(l: Line, up: u8, none: &[u8]) -> Line
     if up == 0 {
         return put(l, none);
     }
-    text::fields(l, b"TX FIFO0 FIFO1 SCE", 0, up as u32, 0)
+    phrases::lines(l, up)
 }
 
 fn lines(l: Line, up: u8) -> Line {
     lines_up(column(l, LINES_COLUMN - 1), up, b" -")
 }
 
-fn answered(l: Line, e: Step, a: Account) -> Line {
-    let g = a.place;
-    if a.code != 0 {
-        return lines(refused(l, a.code, a.reason, g.index), a.lines);
+// The word of a read, the mailbox of a start, or nothing to say.
+fn done(l: Line, e: Step, word: u32) -> Line {
+    match e {
+        Step::Read(o) => phrases::fields(text::hex(l, word, 8), o as u32, word),
+        Step::Start => said(l, b"mailbox %", 0, word as u64),
+        _ => byte(l, b'-'),
     }
-    let d = lines(done(l, e, a.word), a.lines);
-    let t = a.taken;
-    let old = a.old;
-    let new = a.new;
-    changes::told(d, t, old, new)
 }
 
 // ---- lines
@@ -86,7 +74,17 @@ pub fn line(n: u64, e: Step, a: Account) -> Line
 {
     let b = put(text::right(text::empty(), n, NUMBER_WIDTH), b"  ");
     let c = column(phrases::step(b, e, true), ANSWER_COLUMN);
-    byte(answered(c, e, a), b'\n')
+    if a.code != 0 {
+        let g = a.place;
+        let d = refused(c, a.code, a.reason, g.index);
+        return byte(lines(d, a.lines), b'\n');
+    }
+    let d = lines(done(c, e, a.word), a.lines);
+    let t = a.taken;
+    let new = a.new;
+    let old = a.old;
+    let changed = account::changes(old, new);
+    byte(changes::told(d, t, changed, new), b'\n')
 }
 
 // What is wrong with a record that can't be read.
@@ -143,36 +141,25 @@ pub fn unopened_line(up: u8) -> Line
     byte(lines(unopened(column(b, ANSWER_COLUMN)), up), b'\n')
 }
 
-fn pair(l: Line, b: u8) -> Line {
-    text::bytes(l, b as u32, 1)
-}
-
-// A byte of a row as two digits with a blank in front, where the row has it.
-fn byte_of(l: Line, row: &[u8], i: usize) -> Line {
-    if i < row.len() {
-        return pair(l, row[i]);
-    }
-    l
-}
-
 // The same for standard error, by the program that says it, with the bytes that stand there, of which there are at most three.
 pub fn unopened_complaint(program: &[u8], row: &[u8]) -> Line
     ensures { λ r. ⌜ lines.EndsLine r ⌝ }
 {
-    let a = put(text::empty(), program);
-    let n = row.len();
-    let which = bits::pick_u32(n == 0, 0, bits::pick_u32(n < 3, 1, 2));
-    let b = said(
-        put(
-            a,
-            b": the lesson doesn't open with 01 00 00, the record of a reset: ",
-        ),
-        b"it is empty|it ends after|it begins with|",
-        which,
+    let n = bits::least(row.len(), 3);
+    let a = put(
+        put(text::empty(), program),
+        b": the lesson doesn't open with 01 00 00, the record of a reset: ",
+    );
+    let mut b = said(
+        a,
+        b"it is empty|it ends after|it ends after|it begins with",
+        n as u32,
         0,
     );
-    let c = byte_of(byte_of(b, row, 0), row, 1);
-    byte(byte_of(c, row, 2), b'\n')
+    for i in 0..n {
+        b = text::digits(byte(b, b' '), row[i] as u32, 2);
+    }
+    byte(b, b'\n')
 }
 
 // ---- the end

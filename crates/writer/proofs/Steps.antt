@@ -1,25 +1,39 @@
--- What is said of a step, where the step is known.
-use mathlib.Core.Bool.{false}
-use mathlib.Core.Path.{_≡_, sym, ap, subst, _∙_}
-use mathlib.Core.List.{List}
-use Prim.Native.Nat.{ℕ, _≤_}
+-- What is written of a step, where its record is packed.
+use mathlib.Core.Bool.{Bool, true, false, not}
+use mathlib.Core.Path.{_≡_, sym, ap, _∙_}
+use mathlib.Core.List.{List, _++_}
+use Prim.Native.Nat.{ℕ, _+_, _*_, _^_, _<_, _≤_}
+use native.Mathlib.Omega.{arith}
 use lib.Dec.{eqb}
-use lib.ListN.{length}
-use Rattle.model.specs.Records.{recordOf}
+use lib.ListN.{length, drop}
+use borrow.Author.Tests.{lt-ltb, le-ltb}
+use Rattle.model.specs.Records.{bytesOf, recordOf}
 use Rattle.model.specs.Script.{overwritten}
-use Rattle.model.specs.Writer.{stepSaid, writeCode, recordWritten, written}
+use Rattle.model.specs.Writer.{writeCode, recordWritten, written}
 use Rattle.model.specs.declared.Step.{Step}
-use Rattle.model.specs.declared.WideStep.{WideStep}
 use Rattle.model.specs.declared.Written as writings
 use Rattle.model.proofs.Writing.{whole-record}
+use Rattle.writer.specs.Packing.{Packs}
+use Rattle.writer.specs.declared.Packed.{Packed}
 
--- the space that its record needs
-pub room-of : {e f : WideStep} {n : ℕ} → e ≡ f → length (recordOf (stepSaid e)) ≤ n → length (recordOf (stepSaid f)) ≤ n
-room-of {n = n} = subst (λ (g : WideStep). length (recordOf (stepSaid g)) ≤ n)
+pub turned : (b x : Bool) → not b ≡ x → b ≡ not x
+turned true x h = ap not h
+turned false x h = ap not h
 
--- its record in a space
-pub record-of : {e f : WideStep} {x : List ℕ} (s : List ℕ) → e ≡ f → x ≡ overwritten (recordOf (stepSaid f)) s → x ≡ overwritten (recordOf (stepSaid e)) s
-record-of s h k = k ∙ ap (λ (g : WideStep). overwritten (recordOf (stepSaid g)) s) (sym h)
+-- ---- its code
+
+module _ (e : Step) (r : Packed) (h : Packs e r) (space : ℕ) where
+  pub no-space : space < r .length → 9 ≡ writeCode e space
+  unfolding writeCode
+  no-space l = rw (lt-ltb space (length (recordOf e)) (omega (arith, h .count)))
+
+  pub no-fit : r .length ≤ space → r .fits ≡ false → 5 ≡ writeCode e space
+  unfolding writeCode
+  no-fit l f = rw (le-ltb space (length (recordOf e)) (omega (arith, h .count)), ← h .fitting, f)
+
+  pub accepted : r .length ≤ space → r .fits ≡ true → writeCode e space ≡ 0
+  unfolding writeCode
+  accepted l f = rw (le-ltb space (length (recordOf e)) (omega (arith, h .count)), ← h .fitting, f)
 
 -- ---- what is written
 
@@ -37,3 +51,8 @@ pub done : (e : Step) (s t : List ℕ) (n : ℕ) → writeCode e (length s) ≡ 
     → (answer 0 n ≡ written e (length s)) × (t ≡ overwritten (recordWritten e (length s)) s)
 unfolding written
 done e s t n h m w = (rw (whole-record e (length s) h, h, m), rw (whole-record e (length s) h) w)
+
+-- the bytes of the packed record
+pub whole : (e : Step) (r : Packed) → Packs e r → r .fits ≡ true → (s : List ℕ)
+    → bytesOf (r .length) (r .low + r .high * 2 ^ 64) ++ drop (r .length) s ≡ overwritten (recordOf e) s
+whole e r h f s = rw (h .bytes f, h .count)

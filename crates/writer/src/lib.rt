@@ -1,108 +1,121 @@
-// Bench scripts written: a step to its record in a lent space. Module replies reads replies back.
+// Bench scripts written: a step to its record in a lent space.
 ghost use mathlib.Core.Path.{_≡_};
-ghost use Prim.Native.Nat.{_≤_};
 ghost use lib.ListN.{length};
-ghost use Rattle.model.specs.Records as records;
 ghost use Rattle.model.specs.Script as scripts;
 ghost use Rattle.model.specs.Writer as writer;
-use model::WideFrame;
+ghost use Rattle.writer.specs.Packing as packing;
 use model::WideStep;
 use model::Written;
-
-mod put; // put.rt: the bytes of a record
-pub mod replies; // replies.rt: code, lines and word of a reply
 
 // The record of a hardware reset, with which a lesson opens.
 pub const OPENING: [u8; 3] = *b"\x01\x00\x00";
 
-// ---- whether a step can be written
+// The bytes of a record as a number, low byte first: the first eight of them and the others; how many there are; whether the tag can
+// hold each number.
+struct Packed {
+    low: u64,
+    high: u64,
+    length: usize,
+    fits: bool,
+}
 
-fn tag_of(e: WideStep) -> u8
-    ensures { λ r. ⌜ r ≡ scripts.stepTag (writer.stepSaid e) ⌝ }
+// The header is a number of three bytes: the tag, and 256 times the length of the body.
+fn pack(e: WideStep) -> Packed
+    ensures { λ r. ⌜ packing.Packs (writer.stepSaid e) r ⌝ }
 {
     match e {
-        WideStep::Reset => 1,
-        WideStep::Read(_) => 2,
-        WideStep::Write(_, _) => 3,
-        WideStep::Idle => 4,
-        WideStep::BitTimes(_) => 5,
-        WideStep::Activity => 6,
-        WideStep::Start => 7,
-        WideStep::Outcome(_) => 8,
-        WideStep::Receive(_) => 9,
-        WideStep::ReceiveError(_, _) => 10,
+        WideStep::Reset => Packed {
+            low: 0x001,
+            high: 0,
+            length: 3,
+            fits: true,
+        },
+        WideStep::Read(offset) => Packed {
+            low: 0x202 + (offset as u64) * 0x1000000,
+            high: 0,
+            length: 5,
+            fits: offset < 65536,
+        },
+        WideStep::Write(offset, word) => {
+            let body = (offset % 65536) as u64 + (word as u64) * 65536;
+            Packed {
+                low: 0x603 + body % 0x10000000000 * 0x1000000,
+                high: body / 0x10000000000,
+                length: 9,
+                fits: offset < 65536,
+            }
+        }
+        WideStep::Idle => Packed {
+            low: 0x004,
+            high: 0,
+            length: 3,
+            fits: true,
+        },
+        WideStep::BitTimes(n) => Packed {
+            low: 0x205 + (n as u64) * 0x1000000,
+            high: 0,
+            length: 5,
+            fits: n < 65536,
+        },
+        WideStep::Activity => Packed {
+            low: 0x006,
+            high: 0,
+            length: 3,
+            fits: true,
+        },
+        WideStep::Start => Packed {
+            low: 0x007,
+            high: 0,
+            length: 3,
+            fits: true,
+        },
+        WideStep::Outcome(result) => Packed {
+            low: 0x108 + (result as u64) * 0x1000000,
+            high: 0,
+            length: 4,
+            fits: result < 256,
+        },
+        WideStep::Receive(x) => {
+            let body = x.identifier as u64 + (x.length % 256) as u64 * 0x100000000;
+            Packed {
+                low: 0xD09 + body * 0x1000000,
+                high: x.low as u64 + (x.high as u64) * 0x100000000,
+                length: 16,
+                fits: x.length < 256,
+            }
+        }
+        WideStep::ReceiveError(code, by) => {
+            let body = (code % 256) as u64 + (by % 256) as u64 * 256;
+            Packed {
+                low: 0x20A + body * 0x1000000,
+                high: 0,
+                length: 5,
+                fits: (code < 256) & (by < 256),
+            }
+        }
     }
 }
 
-fn record_length(e: WideStep) -> usize
-    ensures { λ r. ⌜ r ≡ length (records.recordOf (writer.stepSaid e)) ⌝ }
-{
-    3 + records::body_length(tag_of(e))
-}
-
-// Whether the tag can hold each number; a word always fits.
-fn fits(e: WideStep) -> bool
-    ensures { λ r. ⌜ r ≡ writer.fit (records.stepFields (writer.stepSaid e)) ⌝ }
-{
-    match e {
-        WideStep::Reset => true,
-        WideStep::Read(offset) => offset < 65536,
-        WideStep::Write(offset, _) => offset < 65536,
-        WideStep::Idle => true,
-        WideStep::BitTimes(n) => n < 65536,
-        WideStep::Activity => true,
-        WideStep::Start => true,
-        WideStep::Outcome(result) => result < 256,
-        WideStep::Receive(x) => x.length < 256,
-        WideStep::ReceiveError(code, by) => (code < 256) & (by < 256),
-    }
-}
-
-// 9 where the record has no space, then 5 where it can't hold a number.
-fn write_code(e: WideStep, space: usize) -> u8
-    ensures { λ r. ⌜ r ≡ writer.writeCode (writer.stepSaid e) space ⌝ }
-{
-    let short = space < record_length(e);
-    let holds = fits(e);
-    let code = bits::pick_u8(holds, 0, 5);
-    bits::pick_u8(short, 9, code)
-}
-
-// ---- its record
-
-fn put_record(e: WideStep, space: &mut [u8])
-    requires { ⌜ length (records.recordOf (writer.stepSaid e)) ≤ length (now space) ⌝ }
-    ensures { λ _. ⌜ now (space .exit) ≡ scripts.overwritten (records.recordOf (writer.stepSaid e)) (now (space .entry)) ⌝ }
-{
-    match e {
-        WideStep::Reset => put::opening(space),
-        WideStep::Read(offset) => put::half_step(2, offset, space),
-        WideStep::Write(offset, word) => put::write_step(offset, word, space),
-        WideStep::Idle => put::header(4, 0, space),
-        WideStep::BitTimes(n) => put::half_step(5, n, space),
-        WideStep::Activity => put::header(6, 0, space),
-        WideStep::Start => put::header(7, 0, space),
-        WideStep::Outcome(result) => put::outcome_step(result, space),
-        WideStep::Receive(x) => put::receive_step(x, space),
-        WideStep::ReceiveError(code, by) => put::receive_error_step(code, by, space),
-    }
-}
-
-// Writes the record of a step to the front of the space: whole, or nothing where it is refused.
+// Writes the record of a step to the front of the space: whole, or nothing where it is refused, by 9 where the record has no space,
+// then by 5 where it can't hold a number.
 pub fn write_record(e: WideStep, space: &mut [u8]) -> Written
     ensures { λ r. ⌜ r ≡ writer.written (writer.stepSaid e) (length (now (space .entry))) ⌝ }
     ensures { λ _. ⌜ now (space .exit) ≡ scripts.overwritten (writer.recordWritten (writer.stepSaid e) (length (now (space .entry)))) (now (space .entry)) ⌝ }
 {
-    let code = write_code(e, space.len());
-    if code != 0 {
-        return Written {
-            code: code,
-            bytes: 0,
-        };
+    let r = pack(e);
+    let n = r.length;
+    if space.len() < n {
+        return Written { code: 9, bytes: 0 };
     }
-    put_record(e, space);
-    Written {
-        code: 0,
-        bytes: record_length(e),
+    if !r.fits {
+        return Written { code: 5, bytes: 0 };
     }
+    let mut low = r.low;
+    let mut high = r.high;
+    for i in 0..n {
+        space[i] = (low % 256) as u8;
+        low = low / 256 + high % 256 * 0x100000000000000;
+        high = high / 256;
+    }
+    Written { code: 0, bytes: n }
 }

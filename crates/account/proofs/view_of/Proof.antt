@@ -25,20 +25,20 @@ rfr-word-requires c κs = search needs
 rfr-word-requires-2 : tie.Need-rfr-word-requires-2
 rfr-word-requires-2 c κs = search needs
 
-cast-t18 : tie.Need-cast-t18
-cast-t18 c = search needs
+cast-t15 : tie.Need-cast-t15
+cast-t15 c = search needs
 
-cast-t19 : tie.Need-cast-t19
-cast-t19 c = search needs
+cast-t16 : tie.Need-cast-t16
+cast-t16 c = search needs
 
 esr-word-requires : tie.Need-esr-word-requires
 esr-word-requires c κs = search needs
 
-cast-t22 : tie.Need-cast-t22
-cast-t22 c = search needs
+cast-t19 : tie.Need-cast-t19
+cast-t19 c = search needs
 
-cast-t26 : tie.Need-cast-t26
-cast-t26 c = search needs
+cast-t23 : tie.Need-cast-t23
+cast-t23 c = search needs
 
 returns : tie.Need-returns
 unfolding viewOf readWord
@@ -55,9 +55,9 @@ view-of-spec =
     mailbox-state-requires-3
     rfr-word-requires
     rfr-word-requires-2
-    cast-t18
-    cast-t19
+    cast-t15
+    cast-t16
     esr-word-requires
-    cast-t22
-    cast-t26
+    cast-t19
+    cast-t23
     returns)

@@ -1,4 +1,4 @@
-use Rattle.account.specs.Reasons.{ofStep}
+use Rattle.account.specs.Reasons.{ofOffset, ofStart, ofStep}
 use borrow.Author.Needs.{needs}
 use Rattle.account.proofs.reasons.of_step.Statement.{statement}
 use Rattle.account.proofs.reasons.of_step.Tie as tie
@@ -9,8 +9,8 @@ enum-told c = search needs
 enum-known-e : tie.Need-enum-known-e
 enum-known-e c = search needs
 
-of-offset-requires : tie.Need-of-offset-requires
-of-offset-requires c κs = search needs
+pick-u32-requires : tie.Need-pick-u32-requires
+pick-u32-requires c κs = search needs
 
 enum-known-e-2 : tie.Need-enum-known-e-2
 enum-known-e-2 c = search needs
@@ -30,8 +30,11 @@ enum-told-4 c = search needs
 enum-told-5 : tie.Need-enum-told-5
 enum-told-5 c = search needs
 
-of-start-requires : tie.Need-of-start-requires
-of-start-requires c κs = search needs
+pick-u32-requires-2 : tie.Need-pick-u32-requires-2
+pick-u32-requires-2 c κs = search needs
+
+of-bus-requires : tie.Need-of-bus-requires
+of-bus-requires c κs = search needs
 
 enum-known-e-3 : tie.Need-enum-known-e-3
 enum-known-e-3 c = search needs
@@ -56,8 +59,8 @@ unfolding ofStep
 returns c = simp (c .enum-told .given .1)
 
 returns-2 : tie.Need-returns-2
-unfolding ofStep
-returns-2 c = simp (c .of-offset .ensures, c .before .before .e .given .1)
+unfolding ofStep ofOffset
+returns-2 c = simp (c .pick-u32 .ensures, c .before .before .e .given .1)
 
 returns-3 : tie.Need-returns-3
 unfolding ofStep
@@ -76,8 +79,8 @@ unfolding ofStep
 returns-6 c = simp (c .enum-told4 .given .1)
 
 returns-7 : tie.Need-returns-7
-unfolding ofStep
-returns-7 c = simp (c .of-start .ensures, c .before .enum-told5 .given .1)
+unfolding ofStep ofStart
+returns-7 c = simp (c .of-bus .ensures, c .before .pick-u322 .ensures, c .before .before .enum-told5 .given .1)
 
 returns-8 : tie.Need-returns-8
 unfolding ofStep
@@ -97,14 +100,15 @@ of-step-spec =
     (tie.spec
     enum-told
     enum-known-e
-    of-offset-requires
+    pick-u32-requires
     enum-known-e-2
     of-write-requires
     enum-told-2
     enum-told-3
     enum-told-4
     enum-told-5
-    of-start-requires
+    pick-u32-requires-2
+    of-bus-requires
     enum-known-e-3
     of-outcome-requires
     enum-known-e-4
