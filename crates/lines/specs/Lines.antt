@@ -1,106 +1,126 @@
 -- What a line of a lesson means: docs/LESSONS.md. A line comes without its line end.
-use mathlib.Core.Bool.{false}
+use mathlib.Core.Bool.{Bool, _||_, not}
 use mathlib.Core.List.{List}
-use Prim.Native.Nat.{ℕ}
-use lib.Dec.{eqb, ltb}
+use Prim.Native.Nat.{ℕ, zero, suc, _-_, _%_, _^_}
+use lib.Dec.{eqb, ltb, leb}
+use lib.ListN.{length}
 use Rattle.model.specs.Base.{pick}
-use Rattle.model.specs.declared.WideStep.the-variants.{Reset, Read, Write, Idle, BitTimes, Activity, Start, Outcome, Receive, ReceiveError}
-use Rattle.names.specs.Scan.{wordAt}
+use Rattle.model.specs.declared.WideStep.the-variants.{Reset, Read, Write, Idle, BitTimes, Activity, Start, Outcome, ReceiveError}
+use Rattle.names.specs.Scan.{runEnd, wordAt}
 use Rattle.names.specs.declared.scan.Word.{Word}
+use Rattle.names.specs.declared.scan.Class.the-variants.{HexDigit}
 use Rattle.names.specs.declared.Group.the-variants.{Registers, Steps, Results}
-use Rattle.lines.specs.Numbers.{number, name, byName}
-use Rattle.lines.specs.Frames as frames
-use Rattle.lines.specs.Parts.{isEmpty, begun, allWords, value}
-use Rattle.lines.specs.Meanings.{bad, badPart, alone}
+use Rattle.lines.specs.Numbers.{noNumber, isEmpty, numeral, byName}
+use Rattle.lines.specs.Parts.{fieldsOf, allWords}
+use Rattle.lines.specs.Meanings.{bad, badPart, alone, last}
+use Rattle.lines.specs.Frames.{frameLine}
 use Rattle.lines.specs.Expectations.{expectLine}
-use Rattle.lines.specs.declared.frames.Spelled.{Spelled}
-use Rattle.lines.specs.declared.parts.Kind.the-variants as kinds
+use Rattle.lines.specs.declared.numbers.Term.{Term}
 use Rattle.lines.specs.declared.parts.Part.{Part}
 use Rattle.lines.specs.declared.Meaning.{Meaning}
 use Rattle.lines.specs.declared.Meaning.the-variants.{Nothing, Step, Bytes, Repeat, Done}
 
--- ---- register accesses: a register is a name or a number of 16 bits; rule 4
+-- ---- one number, up to a limit; the remainders never act
 
-unfoldable pub readLine : List ℕ → ℕ → Meaning
-readLine s p =
-    pick (ltb 65535 (byName s (wordAt s p) Registers)) (bad (wordAt s p .from) 4 0)
-    (alone s (wordAt s p .to) (Step (Read (byName s (wordAt s p) Registers))))
+abbrev pub word : Term → ℕ
+word t = t .number % 2 ^ 32
 
-abbrev pub writtenOf : ℕ → Part → Meaning
-writtenOf o q = pick (eqb (q .rule) 0) (Step (Write o (q .word))) (badPart q)
+-- a register is a name or a number of 16 bits, rule 4; bit times, rule 3
+abbrev pub readOf : List ℕ → Term → Meaning
+readOf s t = last s t 65535 4 0 (Step (Read (word t)))
 
-unfoldable pub written : List ℕ → ℕ → ℕ → Meaning
-written s p o = writtenOf o (value s p o)
-
-unfoldable pub writeLine : List ℕ → ℕ → Meaning
-writeLine s p =
-    pick (ltb 65535 (byName s (wordAt s p) Registers)) (bad (wordAt s p .from) 4 0)
-    (written s (wordAt s p .to) (byName s (wordAt s p) Registers))
-
--- ---- events; a number out of range: rule 3
-
-unfoldable pub bitsLine : List ℕ → ℕ → Meaning
-bitsLine s p =
-    pick (ltb 65535 (number s (wordAt s p))) (bad (wordAt s p .from) 3 65535)
-    (alone s (wordAt s p .to) (Step (BitTimes (number s (wordAt s p)))))
+abbrev pub bitsOf : List ℕ → Term → Meaning
+bitsOf s t = last s t 65535 3 65535 (Step (BitTimes (word t)))
 
 -- rule 9
-unfoldable pub endLine : List ℕ → ℕ → Meaning
-endLine s p =
-    pick (ltb 255 (byName s (wordAt s p) Results)) (bad (wordAt s p .from) 9 0)
-    (alone s (wordAt s p .to) (Step (Outcome (byName s (wordAt s p) Results))))
+abbrev pub endOf : List ℕ → Term → Meaning
+endOf s t = last s t 255 9 0 (Step (Outcome (word t)))
 
-unfoldable pub secondNumber : List ℕ → ℕ → ℕ → Meaning
-secondNumber s p code =
-    pick (ltb 255 (number s (wordAt s p))) (bad (wordAt s p .from) 3 255)
-    (alone s (wordAt s p .to) (Step (ReceiveError code (number s (wordAt s p)))))
+abbrev pub repeatOf : List ℕ → Term → Meaning
+repeatOf s t = last s t 4294967295 3 4294967295 (Repeat (word t))
+
+unfoldable pub numberLine : List ℕ → ℕ → ℕ → Meaning
+numberLine s n p =
+    pick (eqb n 2) (readOf s (byName s p Registers))
+    (pick (eqb n 5) (bitsOf s (numeral s p))
+    (pick (eqb n 8) (endOf s (byName s p Results))
+    (repeatOf s (numeral s p))))
+
+-- ---- two numbers
+
+abbrev pub errorOf : List ℕ → Term → Term → Meaning
+errorOf s t u = pick (ltb 255 (t .number)) (bad (t .from) 3 255) (last s u 255 3 255 (Step (ReceiveError (t .number) (word u))))
 
 unfoldable pub errorLine : List ℕ → ℕ → Meaning
-errorLine s p =
-    pick (ltb 255 (number s (wordAt s p))) (bad (wordAt s p .from) 3 255)
-    (secondNumber s (wordAt s p .to) (number s (wordAt s p)))
+errorLine s p = errorOf s (numeral s p) (numeral s (numeral s p .to))
 
-abbrev pub receiveOf : List ℕ → ℕ → Spelled → Meaning
-receiveOf s p x = pick (eqb (x .rule) 0) (alone s p (Step (Receive (x .frame)))) (bad (x .place) (x .rule) 0)
+-- ---- what a register is written
 
-unfoldable pub frameLine : List ℕ → ℕ → Meaning
-frameLine s p = receiveOf s (wordAt s p .to) (frames.frame s (wordAt s p))
+-- the number in front of the fields, or what they make
+abbrev pub writtenOf : ℕ → ℕ → Part → Meaning
+writtenOf o whole q = pick (eqb (q .rule) 0) (Step (Write o (pick (ltb whole noNumber) whole (q .word)))) (badPart q)
 
--- ---- what is no step
+unfoldable pub written : List ℕ → ℕ → ℕ → ℕ → Meaning
+written s o p whole = writtenOf o whole (allWords s (fieldsOf o whole) p)
 
-unfoldable pub repeatLine : List ℕ → ℕ → Meaning
-repeatLine s p =
-    pick (ltb 4294967295 (number s (wordAt s p))) (bad (wordAt s p .from) 3 4294967295)
-    (alone s (wordAt s p .to) (Repeat (number s (wordAt s p))))
+-- a number first, or fields alone; nothing: rule 5
+abbrev pub valueOf : List ℕ → ℕ → ℕ → Term → Meaning
+valueOf s o p v =
+    pick (isEmpty v) (bad (v .from) 5 o)
+    (pick (not (v .numeric)) (written s o p noNumber)
+    (pick (ltb 4294967295 (v .number)) (bad (v .from) 3 4294967295)
+    (written s o (v .to) (v .number))))
 
-abbrev pub bytesOf : ℕ → Part → Meaning
-bytesOf p q = pick (eqb (q .rule) 0) (Bytes p) (badPart q)
+abbrev pub writeOf : List ℕ → Term → Meaning
+writeOf s t = pick (ltb 65535 (t .number)) (bad (t .from) 4 0) (valueOf s (t .number) (t .to) (numeral s (t .to)))
+
+unfoldable pub writeLine : List ℕ → ℕ → Meaning
+writeLine s p = writeOf s (byName s p Registers)
+
+-- ---- bytes of a script
+
+-- the word has hex digits up to place q: there are others behind them, or one has no second
+abbrev pub isUnpaired : Word → ℕ → Bool
+isUnpaired w q = ltb q (w .to) || not (eqb ((q - w .from) % 2) 0)
+
+-- n words more; one that is not of pairs of hex digits: rule 15
+unfoldable pub bytesOn : List ℕ → ℕ → Word → ℕ → Meaning
+bytesOn s p w zero = Bytes p
+bytesOn s p w (suc n) =
+    pick (leb (w .to) (w .from)) (Bytes p)
+    (pick (isUnpaired w (runEnd s (w .from) HexDigit)) (bad (w .from) 15 0) (bytesOn s p (wordAt s (w .to)) n))
 
 -- hex text from the first pair on; none: rule 15
+abbrev pub bytesFrom : List ℕ → Word → Meaning
+bytesFrom s w = pick (leb (w .to) (w .from)) (bad (w .from) 15 0) (bytesOn s (w .from) w (length s))
+
 unfoldable pub bytesLine : List ℕ → ℕ → Meaning
-bytesLine s p =
-    pick (isEmpty (wordAt s p)) (bad (wordAt s p .from) 15 0)
-    (bytesOf (wordAt s p .from) (allWords s kinds.Pairs (begun p 0 false)))
+bytesLine s p = bytesFrom s (wordAt s p)
 
 -- ---- a line, by the number of its first word; rule 1
 
-unfoldable pub lineOf : List ℕ → ℕ → Word → Meaning
-lineOf s n w =
-    pick (eqb n 1) (alone s (w .to) (Step Reset))
-    (pick (eqb n 2) (readLine s (w .to))
-    (pick (eqb n 3) (writeLine s (w .to))
-    (pick (eqb n 4) (alone s (w .to) (Step Idle))
-    (pick (eqb n 5) (bitsLine s (w .to))
-    (pick (eqb n 6) (alone s (w .to) (Step Activity))
-    (pick (eqb n 7) (alone s (w .to) (Step Start))
-    (pick (eqb n 8) (endLine s (w .to))
-    (pick (eqb n 9) (frameLine s (w .to))
-    (pick (eqb n 10) (errorLine s (w .to))
-    (pick (eqb n 11) (expectLine s (w .to))
-    (pick (eqb n 12) (repeatLine s (w .to))
-    (pick (eqb n 13) (alone s (w .to) Done)
-    (pick (eqb n 14) (bytesLine s (w .to))
-    (bad (w .from) 1 0))))))))))))))
+abbrev pub isNumbered : ℕ → Bool
+isNumbered n = eqb n 2 || eqb n 5 || eqb n 8 || eqb n 12
+
+unfoldable pub lineOf : List ℕ → ℕ → ℕ → ℕ → Meaning
+lineOf s n p q =
+    pick (eqb n 1) (alone s q (Step Reset))
+    (pick (eqb n 3) (writeLine s q)
+    (pick (eqb n 4) (alone s q (Step Idle))
+    (pick (eqb n 6) (alone s q (Step Activity))
+    (pick (eqb n 7) (alone s q (Step Start))
+    (pick (eqb n 9) (frameLine s q)
+    (pick (eqb n 10) (errorLine s q)
+    (pick (eqb n 11) (expectLine s q)
+    (pick (eqb n 13) (alone s q Done)
+    (pick (eqb n 14) (bytesLine s q)
+    (pick (isNumbered n) (numberLine s n q)
+    (bad p 1 0)))))))))))
+
+abbrev pub meaningAt : List ℕ → Term → Meaning
+meaningAt s t =
+    pick (isEmpty t) Nothing
+    (pick (t .numeric) (bad (t .from) 1 0) (lineOf s (t .number) (t .from) (t .to)))
 
 unfoldable pub meaningOf : List ℕ → Meaning
-meaningOf s = pick (isEmpty (wordAt s 0)) Nothing (lineOf s (name s (wordAt s 0) Steps) (wordAt s 0))
+meaningOf s = meaningAt s (byName s 0 Steps)

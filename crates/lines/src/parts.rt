@@ -1,28 +1,23 @@
 // Fields, interrupt lines and bytes: words of a line that are as many as there are.
 ghost use mathlib.Core.Path.{_≡_};
-ghost use Prim.Native.Nat.{_<_, _≤_, _^_};
 ghost use Rattle.lines.specs.Parts as parts;
 ghost use Rattle.lines.specs.Lines as lines;
 use super::Meaning;
 use super::OTHER_VALUE;
 use super::TWICE;
 use super::WANTS_FIELD;
-use super::WANTS_LINES;
 use super::WANTS_NUMBER;
 use super::WANTS_PAIRS;
 use super::WANTS_REGISTER;
 use super::WANTS_VALUE;
 use super::bad;
-use super::is_empty;
 use super::numbers::NO_NUMBER;
+use super::numbers::Term;
 use super::numbers::by_name;
-use super::numbers::is_number;
-use super::numbers::name;
-use super::numbers::number;
+use super::numbers::numeral;
 use model::WideStep;
 use names::Group;
 use names::rows::Column;
-use names::rows::Found;
 use names::rows::NONE;
 use names::scan::Class;
 use names::scan::Word;
@@ -30,35 +25,25 @@ use names::scan::distance;
 use names::scan::run_end;
 use names::scan::word_at;
 
-// What the words are: fields of the register at an offset, interrupt lines, pairs of hex digits.
-pub(crate) enum Kind {
-    Fields(u32),
-    Lines,
-    Pairs,
+// What the words are: names of a group that stand for a bit up to the last; the rule that any other word breaks, with its number; whether
+// they are names alone, with no numbers behind them; and the whole word that they must agree with, where one is given.
+pub(crate) struct Kind {
+    pub(crate) group: Group,
+    pub(crate) last: u64,
+    pub(crate) rule: u32,
+    pub(crate) number: u32,
+    pub(crate) alone: bool,
+    pub(crate) whole: u64,
 }
 
-// The words up to a place: the bits that they make, which bits they gave, whether a number gave them all; or the place where a rule is
-// broken, with the rule's number. Rule 0 is none.
+// The words up to a place: the bits that they make, and which bits they gave; or the place where a rule is broken, with the rule's
+// number. Rule 0 is none.
 pub(crate) struct Part {
     pub(crate) place: usize,
     pub(crate) word: u32,
     pub(crate) given: u32,
-    pub(crate) numbered: bool,
     pub(crate) rule: u32,
     pub(crate) number: u32,
-}
-
-pub(crate) fn begun(place: usize, word: u32, numbered: bool) -> Part
-    ensures { λ r. ⌜ r ≡ parts.begun place word numbered ⌝ }
-{
-    Part {
-        place: place,
-        word: word,
-        given: 0,
-        numbered: numbered,
-        rule: 0,
-        number: 0,
-    }
 }
 
 fn broken(place: usize, rule: u32, n: u32) -> Part
@@ -68,228 +53,109 @@ fn broken(place: usize, rule: u32, n: u32) -> Part
         place: place,
         word: 0,
         given: 0,
-        numbered: false,
         rule: rule,
         number: n,
     }
 }
 
-fn passed(p: Part, place: usize) -> Part
-    ensures { λ r. ⌜ r ≡ parts.passed p place ⌝ }
-{
-    Part {
-        place: place,
-        word: p.word,
-        given: p.given,
-        numbered: p.numbered,
-        rule: p.rule,
-        number: p.number,
-    }
-}
-
 // ---- a field
 
-// 2 to the n; beyond 32 it is no more.
-pub(crate) fn power(n: u64) -> u64
-    ensures { λ r. ⌜ (r ≡ parts.power n) × ((0 < r) × (r ≤ 2 ^ 32)) ⌝ }
+// A name at a place gives a number to the bits of a field. In a whole word they must have this number.
+fn with_bits(p: Part, whole: u64, at: usize, v: Term, first: u64, size: u32) -> Part
+    ensures { λ r. ⌜ r ≡ parts.withBits p whole at v first size ⌝ }
 {
-    if 32 < n {
-        return 4294967296;
+    let bit: u64 = 1 << (first % 32);
+    let range: u64 = 1 << ((size as u64) % 32);
+    if (p.given as u64) / bit % range != 0 {
+        return broken(at, TWICE, 0);
     }
-    1 << n
-}
-
-// Whether one of the bits from `bit` on, which have so many values, is given already.
-fn is_given(p: Part, bit: u64, range: u64) -> bool
-    requires { ⌜ (0 < bit) × (0 < range) ⌝ }
-    ensures { λ r. ⌜ r ≡ parts.isGiven p bit range ⌝ }
-{
-    (p.given as u64) / bit % range != 0
-}
-
-// The bits of a number stay as they are.
-fn word_with(p: Part, n: u32, bit: u64) -> u32
-    requires { ⌜ bit ≤ 2 ^ 32 ⌝ }
-    ensures { λ r. ⌜ r ≡ parts.wordWith p n bit ⌝ }
-{
-    if p.numbered {
-        return p.word;
+    let n = v.number;
+    if range <= n {
+        return broken(v.from, WANTS_NUMBER, (range - 1) as u32);
     }
-    let sum = (p.word as u64) + (n as u64) * bit;
-    (sum % 4294967296) as u32
-}
-
-// A word at a place gives n to these bits, and ends at another place; in a number they must be n.
-fn with_bits(p: Part, at: usize, next: usize, n: u32, bit: u64, range: u64) -> Part
-    requires { ⌜ (0 < bit) × ((bit ≤ 2 ^ 32) × ((0 < range) × (range ≤ 2 ^ 32))) ⌝ }
-    ensures { λ r. ⌜ r ≡ parts.withBits p at next n bit range ⌝ }
-{
-    let value = (p.word as u64) / bit % range;
-    if p.numbered & (value != (n as u64)) {
-        return broken(at, OTHER_VALUE, (value % 4294967296) as u32);
+    let value = whole / bit % range;
+    if (whole < NO_NUMBER) & (value != n) {
+        return broken(at, OTHER_VALUE, value as u32);
     }
-    let all = (p.given as u64) + (range - 1) * bit;
+    let word = (p.word as u64) + n * bit;
+    let given = (p.given as u64) + (range - 1) * bit;
     Part {
-        place: next,
-        word: word_with(p, n, bit),
-        given: (all % 4294967296) as u32,
-        numbered: p.numbered,
+        place: v.to,
+        word: (word % 4294967296) as u32,
+        given: (given % 4294967296) as u32,
         rule: 0,
         number: 0,
     }
 }
 
-// The number behind the name of a field: where it stands, and where the field ends.
-struct Behind {
-    number: u64,
-    from: usize,
-    to: usize,
-}
-
-// A field of one bit needs none.
-fn number_behind(s: &[u8], to: usize, size: u32) -> Behind
-    ensures { λ r. ⌜ r ≡ parts.numberBehind (now (s .entry)) to size ⌝ }
+// A field of one bit needs no number.
+fn field(s: &[u8], k: Kind, p: Part, w: Word) -> Part
+    ensures { λ r. ⌜ r ≡ parts.field (now (s .entry)) k p w ⌝ }
 {
-    let v = word_at(s, to);
-    if is_number(s, v) {
-        return Behind {
-            number: number(s, v),
-            from: v.from,
-            to: v.to,
-        };
+    let g = k.group;
+    let f = names::named(s, w, g);
+    let first = names::place(f);
+    if (f.row == NONE) | (k.last < first) {
+        return broken(w.from, k.rule, k.number);
     }
-    if size == 1 {
-        return Behind {
-            number: 1,
-            from: v.from,
-            to: to,
-        };
-    }
-    Behind {
-        number: NO_NUMBER,
-        from: v.from,
-        to: to,
-    }
-}
-
-fn with_field(s: &[u8], p: Part, w: Word, f: Found) -> Part
-    ensures { λ r. ⌜ r ≡ parts.withField (now (s .entry)) p w f ⌝ }
-{
     let size = names::number(f.row, Column::Size);
-    let range = power(size as u64);
-    let bit = power(names::place(f));
-    if is_given(p, bit, range) {
-        return broken(w.from, TWICE, 0);
+    let v = numeral(s, w.to);
+    if (size == 1) & (k.alone | !v.numeric) {
+        let set = Term {
+            from: w.to,
+            to: w.to,
+            numeric: false,
+            number: 1,
+        };
+        return with_bits(p, k.whole, w.from, set, first, size);
     }
-    let v = number_behind(s, w.to, size);
-    let n = v.number;
-    if range <= n {
-        return broken(v.from, WANTS_NUMBER, (range - 1) as u32);
-    }
-    with_bits(p, w.from, v.to, n as u32, bit, range)
+    with_bits(p, k.whole, w.from, v, first, size)
 }
 
-// ---- one word more
-
-fn field(s: &[u8], p: Part, w: Word, offset: u32) -> Part
-    ensures { λ r. ⌜ r ≡ parts.field (now (s .entry)) p w offset ⌝ }
-{
-    let g = names::register_at(offset);
-    let f = names::named(s, w, Group::Fields(g.row));
-    if f.row == NONE {
-        return broken(w.from, WANTS_FIELD, offset);
-    }
-    with_field(s, p, w, f)
-}
-
-// The line 4 is none of them.
-fn line(s: &[u8], p: Part, w: Word) -> Part
-    ensures { λ r. ⌜ r ≡ parts.line (now (s .entry)) p w ⌝ }
-{
-    let n = name(s, w, Group::Lines);
-    if 3 < n {
-        return broken(w.from, WANTS_LINES, 0);
-    }
-    let bit = power(n);
-    if is_given(p, bit, 2) {
-        return broken(w.from, TWICE, 0);
-    }
-    with_bits(p, w.from, w.to, 1, bit, 2)
-}
-
-fn pairs(s: &[u8], p: Part, w: Word) -> Part
-    ensures { λ r. ⌜ r ≡ parts.pairs (now (s .entry)) p w ⌝ }
-{
-    let end = run_end(s, w.from, Class::HexDigit);
-    if (end < w.to) | (distance(w.from, end) % 2 != 0) {
-        return broken(w.from, WANTS_PAIRS, 0);
-    }
-    passed(p, w.to)
-}
-
-fn word_of(s: &[u8], k: Kind, p: Part, w: Word) -> Part
-    ensures { λ r. ⌜ r ≡ parts.wordOf (now (s .entry)) k p w ⌝ }
-{
-    match k {
-        Kind::Fields(offset) => field(s, p, w, offset),
-        Kind::Lines => line(s, p, w),
-        Kind::Pairs => pairs(s, p, w),
-    }
-}
-
-fn one_more(s: &[u8], k: Kind, p: Part) -> Part
-    ensures { λ r. ⌜ r ≡ parts.oneMore (now (s .entry)) k p ⌝ }
-{
-    let w = word_at(s, p.place);
-    if (p.rule != 0) | is_empty(w) {
-        return p;
-    }
-    word_of(s, k, p, w)
-}
+// ---- all words
 
 // A line has no more words than bytes.
-pub(crate) fn all_words(s: &[u8], k: Kind, p: Part) -> Part
-    ensures { λ r. ⌜ r ≡ parts.allWords (now (s .entry)) k p ⌝ }
+pub(crate) fn all_words(s: &[u8], k: Kind, place: usize) -> Part
+    ensures { λ r. ⌜ r ≡ parts.allWords (now (s .entry)) k place ⌝ }
 {
-    let mut q = p;
+    let mut p = Part {
+        place: place,
+        word: 0,
+        given: 0,
+        rule: 0,
+        number: 0,
+    };
     for i in 0..s.len() {
-        q = one_more(s, k, q);
+        let w = word_at(s, p.place);
+        if (p.rule != 0) | (w.to <= w.from) {
+            return p;
+        }
+        p = field(s, k, p, w);
     }
-    q
+    p
 }
 
 // ---- lines
 
-fn number_first(s: &[u8], w: Word) -> Part
-    ensures { λ r. ⌜ r ≡ parts.numberFirst (now (s .entry)) w ⌝ }
+// A write to the register at an offset: fields from a place on, behind a number or with none.
+fn written(s: &[u8], offset: u32, place: usize, whole: u64) -> Meaning
+    ensures { λ r. ⌜ r ≡ lines.written (now (s .entry)) offset place whole ⌝ }
 {
-    let n = number(s, w);
-    if 4294967295 < n {
-        return broken(w.from, WANTS_NUMBER, 4294967295);
-    }
-    begun(w.to, n as u32, true)
-}
-
-// What a register is written: a number, fields, or both.
-fn value_begun(s: &[u8], place: usize, offset: u32) -> Part
-    ensures { λ r. ⌜ r ≡ parts.valueBegun (now (s .entry)) place offset ⌝ }
-{
-    let w = word_at(s, place);
-    if is_empty(w) {
-        return broken(w.from, WANTS_VALUE, offset);
-    }
-    if is_number(s, w) {
-        return number_first(s, w);
-    }
-    begun(place, 0, false)
-}
-
-fn written(s: &[u8], place: usize, offset: u32) -> Meaning
-    ensures { λ r. ⌜ r ≡ lines.written (now (s .entry)) place offset ⌝ }
-{
-    let p = all_words(s, Kind::Fields(offset), value_begun(s, place, offset));
+    let g = names::register_at(offset);
+    let k = Kind {
+        group: Group::Fields(g.row),
+        last: 31,
+        rule: WANTS_FIELD,
+        number: offset,
+        alone: false,
+        whole: whole,
+    };
+    let p = all_words(s, k, place);
     if p.rule != 0 {
         return bad(p.place, p.rule, p.number);
+    }
+    if whole < NO_NUMBER {
+        return Meaning::Step(WideStep::Write(offset, whole as u32));
     }
     Meaning::Step(WideStep::Write(offset, p.word))
 }
@@ -297,24 +163,41 @@ fn written(s: &[u8], place: usize, offset: u32) -> Meaning
 pub(crate) fn write_line(s: &[u8], place: usize) -> Meaning
     ensures { λ r. ⌜ r ≡ lines.writeLine (now (s .entry)) place ⌝ }
 {
-    let w = word_at(s, place);
-    let o = by_name(s, w, Group::Registers);
-    if 65535 < o {
-        return bad(w.from, WANTS_REGISTER, 0);
+    let r = by_name(s, place, Group::Registers);
+    if 65535 < r.number {
+        return bad(r.from, WANTS_REGISTER, 0);
     }
-    written(s, w.to, o as u32)
+    let offset = r.number as u32;
+    let v = numeral(s, r.to);
+    if v.to <= v.from {
+        return bad(v.from, WANTS_VALUE, offset);
+    }
+    if !v.numeric {
+        return written(s, offset, r.to, NO_NUMBER);
+    }
+    if 4294967295 < v.number {
+        return bad(v.from, WANTS_NUMBER, 4294967295);
+    }
+    written(s, offset, v.to, v.number)
 }
 
 pub(crate) fn bytes_line(s: &[u8], place: usize) -> Meaning
     ensures { λ r. ⌜ r ≡ lines.bytesLine (now (s .entry)) place ⌝ }
 {
-    let w = word_at(s, place);
-    if is_empty(w) {
-        return bad(w.from, WANTS_PAIRS, 0);
+    let mut w = word_at(s, place);
+    let first = w.from;
+    if w.to <= first {
+        return bad(first, WANTS_PAIRS, 0);
     }
-    let p = all_words(s, Kind::Pairs, begun(place, 0, false));
-    if p.rule != 0 {
-        return bad(p.place, p.rule, p.number);
+    for i in 0..s.len() {
+        if w.to <= w.from {
+            return Meaning::Bytes(first);
+        }
+        let end = run_end(s, w.from, Class::HexDigit);
+        if (end < w.to) | (distance(w.from, end) % 2 != 0) {
+            return bad(w.from, WANTS_PAIRS, 0);
+        }
+        w = word_at(s, w.to);
     }
-    Meaning::Bytes(w.from)
+    Meaning::Bytes(first)
 }

@@ -1,41 +1,94 @@
+use mathlib.Core.Bool.{not}
+use mathlib.Core.Path.{_∙_}
+use native.Mathlib.Omega.{arith}
+use lib.Dec.{eqb}
+use borrow.Author.Tests.{eqb-true, not-false}
+use Rattle.model.proofs.Choices.{or-r}
+use Rattle.lines.proofs.Places.{inside}
+use borrow.Author.Tests.{lt-ltb, le-ltb, le-leb, lt-leb}
 use Rattle.lines.specs.Frames.{finished}
-use borrow.Author.Tests.{le-leb, lt-leb}
 use borrow.Author.Needs.{needs}
 use Rattle.lines.proofs.frames.finished.Statement.{statement}
 use Rattle.lines.proofs.frames.finished.Tie as tie
 
+alone-requires : tie.Need-alone-requires
+alone-requires c κs = search needs
+
 returns : tie.Need-returns
 unfolding finished
-returns c = simp (le-leb _ _ (c .if1 .taken))
+returns c = simp (c .alone .ensures, le-leb _ _ (c .before .if1 .taken))
 
 byte-at-requires : tie.Need-byte-at-requires
 byte-at-requires c κs = search needs
 
-broken-requires : tie.Need-broken-requires
-broken-requires c κs = search needs
+bad-requires : tie.Need-bad-requires
+bad-requires c κs = search needs
 
 returns-2 : tie.Need-returns-2
 unfolding finished
-returns-2 c = simp (c .broken .ensures, c .before .if2 .taken, ← c .before .before .byte-at .ensures, lt-leb _ _ (c .before .before .before .before .if1 .left))
+returns-2 c = simp (c .bad .ensures, c .before .if2 .taken, ← c .before .before .byte-at .ensures, lt-leb _ _ (c .before .before .before .before .if1 .left))
 
-next-requires : tie.Need-next-requires
-next-requires c κs = search needs
+add-at : tie.Need-add-at
+add-at c = search needs
 
-coded-requires : tie.Need-coded-requires
-coded-requires c κs = search needs
+byte-at-requires-2 : tie.Need-byte-at-requires-2
+byte-at-requires-2 c κs = search needs
+
+digit-of-requires : tie.Need-digit-of-requires
+digit-of-requires c κs = search needs
+
+bad-requires-2 : tie.Need-bad-requires-2
+bad-requires-2 c κs = search needs
 
 returns-3 : tie.Need-returns-3
 unfolding finished
-returns-3 c = simp (c .coded .ensures, ← c .before .next .ensures, c .before .before .if2 .left, ← c .before .before .before .byte-at .ensures, lt-leb _ _ (c .before .before .before .before .before .if1 .left))
+returns-3 c = simp (c .bad2 .ensures, c .before .if3 .taken, ← c .before .before .digit-of .ensures, ← c .before .before .before .byte-at2 .ensures, c .before .before .before .before .if2 .left, ← c .before .before .before .before .before .byte-at .ensures, lt-leb _ _ (c .before .before .before .before .before .before .before .if1 .left))
+
+add-if4 : tie.Need-add-if4
+add-if4 c =
+    let a = c .before .before .before .before .before .before .before .before .args in
+    let b = c .before .before .before .before .byte-at .result in
+    let l = eqb-true b 95 (not-false (eqb b 95) (or-r (not (eqb (a .f .length) 8)) (not (eqb b 95)) (c .before .before .before .if2 .left))) in
+    record { fits = omega (arith, inside (a .s .now) (a .place) (λ e. omega (arith, l, c .before .before .before .before .byte-at .ensures ∙ e))) }
+
+add-bad : tie.Need-add-bad
+add-bad c = search needs
+
+bad-requires-3 : tie.Need-bad-requires-3
+bad-requires-3 c κs = search needs
+
+returns-4 : tie.Need-returns-4
+unfolding finished
+returns-4 c = simp (c .bad3 .ensures, lt-ltb _ _ (c .before .if4 .taken), c .before .before .if3 .left, ← c .before .before .before .digit-of .ensures, ← c .before .before .before .before .byte-at2 .ensures, c .before .before .before .before .before .if2 .left, ← c .before .before .before .before .before .before .byte-at .ensures, lt-leb _ _ (c .before .before .before .before .before .before .before .before .if1 .left))
+
+cast-x : tie.Need-cast-x
+cast-x c = search needs
+
+alone-requires-2 : tie.Need-alone-requires-2
+alone-requires-2 c κs = search needs
+
+returns-5 : tie.Need-returns-5
+unfolding finished
+returns-5 c = simp (c .alone2 .ensures, le-ltb _ _ (c .before .if4 .left), c .before .before .if3 .left, ← c .before .before .before .digit-of .ensures, ← c .before .before .before .before .byte-at2 .ensures, c .before .before .before .before .before .if2 .left, ← c .before .before .before .before .before .before .byte-at .ensures, lt-leb _ _ (c .before .before .before .before .before .before .before .before .if1 .left))
 
 pub finished-spec : {M : Type 1} → statement M
 finished-spec =
     tie.close
     (tie.spec
+    alone-requires
     returns
     byte-at-requires
-    broken-requires
+    bad-requires
     returns-2
-    next-requires
-    coded-requires
-    returns-3)
+    add-at
+    byte-at-requires-2
+    digit-of-requires
+    bad-requires-2
+    returns-3
+    add-if4
+    add-bad
+    bad-requires-3
+    returns-4
+    cast-x
+    alone-requires-2
+    returns-5)

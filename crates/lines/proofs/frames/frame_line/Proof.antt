@@ -1,0 +1,76 @@
+use native.Mathlib.Omega.{arith}
+use lib.Dec.{eqb, leb}
+use borrow.Author.Tests.{leb-true}
+use Rattle.model.proofs.Choices.{and-r}
+use Rattle.lines.specs.Frames.{frameLine}
+use borrow.Author.Needs.{needs}
+use Rattle.lines.proofs.frames.frame_line.Statement.{statement}
+use Rattle.lines.proofs.frames.frame_line.Tie as tie
+
+word-at-requires : tie.Need-word-at-requires
+word-at-requires c κs = search needs
+
+run-end-requires : tie.Need-run-end-requires
+run-end-requires c κs = search needs
+
+distance-requires : tie.Need-distance-requires
+distance-requires c κs = search needs
+
+value-requires : tie.Need-value-requires
+value-requires c κs = search needs
+
+mul-standard : tie.Need-mul-standard
+mul-standard c = let n = c .before .value .result in let m = c .before .before .distance .result in let l = leb-true n 2047 (and-r (eqb m 3) (leb n 2047) (c .if1 .taken)) in record { fits = omega (arith, l) }
+
+cast-behind-identifier : tie.Need-cast-behind-identifier
+cast-behind-identifier c = let n = c .before .value .result in let m = c .before .before .distance .result in let l = leb-true n 2047 (and-r (eqb m 3) (leb n 2047) (c .if1 .taken)) in record { fits = omega (arith, l) }
+
+behind-identifier-requires : tie.Need-behind-identifier-requires
+behind-identifier-requires c κs = let n = c .before .value .result in let m = c .before .before .distance .result in let l = leb-true n 2047 (and-r (eqb m 3) (leb n 2047) (c .if1 .taken)) in omega (arith, l)
+
+returns : tie.Need-returns
+unfolding frameLine
+returns c = simp (c .behind-identifier .ensures, c .before .if1 .taken, ← c .before .before .value .ensures, ← c .before .before .before .distance .ensures, ← c .before .before .before .before .run-end .ensures, ← c .before .before .before .before .before .word-at .ensures)
+
+mul-extended : tie.Need-mul-extended
+mul-extended c = let n = c .before .before .value .result in let m = c .before .before .before .distance .result in let l = leb-true n 536870911 (and-r (eqb m 8) (leb n 536870911) (c .if2 .taken)) in record { fits = omega (arith, l) }
+
+add-extended : tie.Need-add-extended
+add-extended c = let n = c .before .before .value .result in let m = c .before .before .before .distance .result in let l = leb-true n 536870911 (and-r (eqb m 8) (leb n 536870911) (c .if2 .taken)) in record { fits = omega (arith, l) }
+
+cast-behind-identifier-2 : tie.Need-cast-behind-identifier-2
+cast-behind-identifier-2 c = let n = c .before .before .value .result in let m = c .before .before .before .distance .result in let l = leb-true n 536870911 (and-r (eqb m 8) (leb n 536870911) (c .if2 .taken)) in record { fits = omega (arith, l) }
+
+behind-identifier-requires-2 : tie.Need-behind-identifier-requires-2
+behind-identifier-requires-2 c κs = let n = c .before .before .value .result in let m = c .before .before .before .distance .result in let l = leb-true n 536870911 (and-r (eqb m 8) (leb n 536870911) (c .if2 .taken)) in omega (arith, l)
+
+returns-2 : tie.Need-returns-2
+unfolding frameLine
+returns-2 c = simp (c .behind-identifier2 .ensures, c .before .if2 .taken, c .before .before .if1 .left, ← c .before .before .before .value .ensures, ← c .before .before .before .before .distance .ensures, ← c .before .before .before .before .before .run-end .ensures, ← c .before .before .before .before .before .before .word-at .ensures)
+
+bad-requires : tie.Need-bad-requires
+bad-requires c κs = search needs
+
+returns-3 : tie.Need-returns-3
+unfolding frameLine
+returns-3 c = simp (c .bad .ensures, c .before .if2 .left, c .before .before .if1 .left, ← c .before .before .before .value .ensures, ← c .before .before .before .before .distance .ensures, ← c .before .before .before .before .before .run-end .ensures, ← c .before .before .before .before .before .before .word-at .ensures)
+
+pub frame-line-spec : {M : Type 1} → statement M
+frame-line-spec =
+    tie.close
+    (tie.spec
+    word-at-requires
+    run-end-requires
+    distance-requires
+    value-requires
+    mul-standard
+    cast-behind-identifier
+    behind-identifier-requires
+    returns
+    mul-extended
+    add-extended
+    cast-behind-identifier-2
+    behind-identifier-requires-2
+    returns-2
+    bad-requires
+    returns-3)
