@@ -1,3 +1,4 @@
+pub mod Identifiers
 pub mod Places
 pub mod Powers
 pub mod Words

@@ -6,7 +6,7 @@ use lib.Dec.{eqb, ltb, leb}
 use Rattle.model.specs.Base.{pick}
 use Rattle.model.specs.declared.WideFrame.{WideFrame}
 use Rattle.model.specs.declared.WideStep.the-variants.{Receive}
-use Rattle.names.specs.Scan.{byteAt, digitOf, runEnd, wordAt, value}
+use Rattle.names.specs.Scan.{byteAt, runEnd, wordAt, value}
 use Rattle.names.specs.declared.scan.Word.{Word}
 use Rattle.names.specs.declared.scan.Class.the-variants.{HexDigit}
 use Rattle.lines.specs.Meanings.{bad, alone}
@@ -19,22 +19,26 @@ framed identifier low high length = record { identifier = identifier; low = low;
 abbrev pub received : List ℕ → ℕ → WideFrame → Meaning
 received s j f = alone s j (Step (Receive f))
 
+-- the value of the hex digit at a place; any other byte has 2^32
+abbrev pub digitAt : List ℕ → ℕ → ℕ
+digitAt s p = value s p (p + 1) true
+
 -- ---- the data
 
 -- n pairs of digits up to place q as one number, the first pair lowest; the remainders never act: there are eight pairs at the most,
 -- and the digits are hex digits
 unfoldable pub pairs : List ℕ → ℕ → ℕ → ℕ
 pairs s q zero = 0
-pairs s q (suc n) = pairs s q n % 2 ^ 56 * 256 + value s (q - 2 * n - 2) (q - 2 * n - 2 + 2) true % 256
+pairs s q (suc n) = pairs s q n % 2 ^ 56 * 256 + value s (q - 2 * suc n) (q - 2 * suc n + 2) true % 256
 
 -- ---- the end of the word, at place j
 
 -- behind '_' a digit from 9 to F, and the word ends; rule 14
 abbrev pub coded : List ℕ → ℕ → ℕ → WideFrame → Meaning
 coded s j p f =
-    pick (ltb (digitOf (byteAt s p)) 9 || ltb 15 (digitOf (byteAt s p))) (bad p 14 0)
+    pick (ltb (digitAt s p) 9 || ltb 15 (digitAt s p)) (bad p 14 0)
     (pick (ltb (p + 1) j) (bad (p + 1) 14 0)
-    (received s j (framed (f .identifier) (f .low) (f .high) (digitOf (byteAt s p)))))
+    (received s j (framed (f .identifier) (f .low) (f .high) (digitAt s p))))
 
 -- behind eight bytes, or R8, a code may follow; rule 13
 unfoldable pub finished : List ℕ → ℕ → ℕ → WideFrame → Meaning
@@ -44,11 +48,11 @@ finished s j p f =
 
 -- ---- behind the identifier
 
--- behind 'R': nothing or a digit from 0 to 8; a blank, which has the digit 16, is the length 0
-unfoldable pub remote : List ℕ → ℕ → ℕ → ℕ → Meaning
+-- behind 'R': nothing or a digit from 0 to 8; where the word ends, the length is 2^32 % 16, which is 0
+abbrev pub remote : List ℕ → ℕ → ℕ → ℕ → Meaning
 remote s j p identifier =
-    pick (ltb 8 (digitOf (byteAt s p)) && ltb p j) (bad p 13 0)
-    (finished s j (p + 1) (framed identifier 0 0 (digitOf (byteAt s p) % 16)))
+    pick (ltb 8 (digitAt s p) && ltb p j) (bad p 13 0)
+    (finished s j (p + 1) (framed identifier 0 0 (digitAt s p % 16)))
 
 abbrev pub dataOf : List ℕ → ℕ → ℕ → ℕ → ℕ → Meaning
 dataOf s j q identifier n =

@@ -20,45 +20,40 @@ use Rattle.lines.specs.declared.parts.Part.{Part}
 use Rattle.lines.specs.declared.Meaning.{Meaning}
 use Rattle.lines.specs.declared.Meaning.the-variants.{Nothing, Step, Bytes, Repeat, Done}
 
--- ---- one number, up to a limit; the remainders never act
+-- ---- lines with numbers
 
-abbrev pub word : Term → ℕ
-word t = t .number % 2 ^ 32
-
--- a register is a name or a number of 16 bits, rule 4; bit times, rule 3
+-- a register is a name or a number of 16 bits: rule 4
 abbrev pub readOf : List ℕ → Term → Meaning
-readOf s t = last s t 65535 4 0 (Step (Read (word t)))
+readOf s t = last s t 65535 4 0 (Step (Read (t .word)))
 
+-- a number out of range: rule 3
 abbrev pub bitsOf : List ℕ → Term → Meaning
-bitsOf s t = last s t 65535 3 65535 (Step (BitTimes (word t)))
+bitsOf s t = last s t 65535 3 65535 (Step (BitTimes (t .word)))
 
 -- rule 9
 abbrev pub endOf : List ℕ → Term → Meaning
-endOf s t = last s t 255 9 0 (Step (Outcome (word t)))
+endOf s t = last s t 255 9 0 (Step (Outcome (t .word)))
+
+abbrev pub errorOf : List ℕ → Term → Term → Meaning
+errorOf s t u = pick (ltb 255 (t .number)) (bad (t .from) 3 255) (last s u 255 3 255 (Step (ReceiveError (t .word) (u .word))))
 
 abbrev pub repeatOf : List ℕ → Term → Meaning
-repeatOf s t = last s t 4294967295 3 4294967295 (Repeat (word t))
+repeatOf s t = last s t 4294967295 3 4294967295 (Repeat (t .word))
 
+-- by the number of the first word
 unfoldable pub numberLine : List ℕ → ℕ → ℕ → Meaning
 numberLine s n p =
     pick (eqb n 2) (readOf s (byName s p Registers))
     (pick (eqb n 5) (bitsOf s (numeral s p))
     (pick (eqb n 8) (endOf s (byName s p Results))
-    (repeatOf s (numeral s p))))
-
--- ---- two numbers
-
-abbrev pub errorOf : List ℕ → Term → Term → Meaning
-errorOf s t u = pick (ltb 255 (t .number)) (bad (t .from) 3 255) (last s u 255 3 255 (Step (ReceiveError (t .number) (word u))))
-
-unfoldable pub errorLine : List ℕ → ℕ → Meaning
-errorLine s p = errorOf s (numeral s p) (numeral s (numeral s p .to))
+    (pick (eqb n 10) (errorOf s (numeral s p) (numeral s (numeral s p .to)))
+    (repeatOf s (numeral s p)))))
 
 -- ---- what a register is written
 
 -- the number in front of the fields, or what they make
 abbrev pub writtenOf : ℕ → ℕ → Part → Meaning
-writtenOf o whole q = pick (eqb (q .rule) 0) (Step (Write o (pick (ltb whole noNumber) whole (q .word)))) (badPart q)
+writtenOf o whole q = pick (eqb (q .rule) 0) (Step (Write o (pick (ltb whole noNumber) whole (q .word % 2 ^ 32)))) (badPart q)
 
 unfoldable pub written : List ℕ → ℕ → ℕ → ℕ → Meaning
 written s o p whole = writtenOf o whole (allWords s (fieldsOf o whole) p)
@@ -67,21 +62,20 @@ written s o p whole = writtenOf o whole (allWords s (fieldsOf o whole) p)
 abbrev pub valueOf : List ℕ → ℕ → ℕ → Term → Meaning
 valueOf s o p v =
     pick (isEmpty v) (bad (v .from) 5 o)
-    (pick (not (v .numeric)) (written s o p noNumber)
-    (pick (ltb 4294967295 (v .number)) (bad (v .from) 3 4294967295)
-    (written s o (v .to) (v .number))))
+    (pick (ltb (v .number) noNumber) (written s o (v .to) (v .number))
+    (pick (v .numeric) (bad (v .from) 3 4294967295) (written s o p noNumber)))
 
 abbrev pub writeOf : List ℕ → Term → Meaning
-writeOf s t = pick (ltb 65535 (t .number)) (bad (t .from) 4 0) (valueOf s (t .number) (t .to) (numeral s (t .to)))
+writeOf s t = pick (ltb 65535 (t .number)) (bad (t .from) 4 0) (valueOf s (t .word) (t .to) (numeral s (t .to)))
 
 unfoldable pub writeLine : List ℕ → ℕ → Meaning
 writeLine s p = writeOf s (byName s p Registers)
 
 -- ---- bytes of a script
 
--- the word has hex digits up to place q: there are others behind them, or one has no second
+-- a word that has hex digits up to place q: others follow, or one has no second
 abbrev pub isUnpaired : Word → ℕ → Bool
-isUnpaired w q = ltb q (w .to) || not (eqb ((q - w .from) % 2) 0)
+isUnpaired w q = ltb q (w .to) || not (eqb ((w .to - w .from) % 2) 0)
 
 -- n words more; one that is not of pairs of hex digits: rule 15
 unfoldable pub bytesOn : List ℕ → ℕ → Word → ℕ → Meaning
@@ -100,8 +94,9 @@ bytesLine s p = bytesFrom s (wordAt s p)
 -- ---- a line, by the number of its first word; rule 1
 
 abbrev pub isNumbered : ℕ → Bool
-isNumbered n = eqb n 2 || eqb n 5 || eqb n 8 || eqb n 12
+isNumbered n = eqb n 2 || eqb n 5 || eqb n 8 || eqb n 10 || eqb n 12
 
+-- the word stands from p up to q
 unfoldable pub lineOf : List ℕ → ℕ → ℕ → ℕ → Meaning
 lineOf s n p q =
     pick (eqb n 1) (alone s q (Step Reset))
@@ -110,17 +105,14 @@ lineOf s n p q =
     (pick (eqb n 6) (alone s q (Step Activity))
     (pick (eqb n 7) (alone s q (Step Start))
     (pick (eqb n 9) (frameLine s q)
-    (pick (eqb n 10) (errorLine s q)
     (pick (eqb n 11) (expectLine s q)
     (pick (eqb n 13) (alone s q Done)
     (pick (eqb n 14) (bytesLine s q)
     (pick (isNumbered n) (numberLine s n q)
-    (bad p 1 0)))))))))))
+    (bad p 1 0))))))))))
 
 abbrev pub meaningAt : List ℕ → Term → Meaning
-meaningAt s t =
-    pick (isEmpty t) Nothing
-    (pick (t .numeric) (bad (t .from) 1 0) (lineOf s (t .number) (t .from) (t .to)))
+meaningAt s t = pick (isEmpty t) Nothing (lineOf s (t .name) (t .from) (t .to))
 
 unfoldable pub meaningOf : List ℕ → Meaning
 meaningOf s = meaningAt s (byName s 0 Steps)

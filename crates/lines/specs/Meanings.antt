@@ -1,7 +1,7 @@
 -- What a line can mean, and where it is no line of a lesson.
 use mathlib.Core.Bool.{Bool, _&&_, _||_, not}
 use mathlib.Core.List.{List, [], _∷_}
-use Prim.Native.Nat.{ℕ}
+use Prim.Native.Nat.{ℕ, _%_, _^_}
 use lib.Dec.{eqb, ltb, leb}
 use Rattle.model.specs.Base.{pick, one}
 use Rattle.model.specs.Writer.{wideNumbers}
@@ -34,7 +34,7 @@ abbrev pub bad : ℕ → ℕ → ℕ → Meaning
 bad p rule n = Bad (record { place = p; rule = rule; number = n })
 
 abbrev pub badPart : Part → Meaning
-badPart q = bad (q .place) (q .rule) (q .number)
+badPart q = bad (q .place) (q .rule) (q .word % 2 ^ 32)
 
 abbrev pub ended : Word → Meaning → Meaning
 ended w m = pick (leb (w .to) (w .from)) m (bad (w .from) 2 0)

@@ -1,7 +1,7 @@
 -- Words as numbers, and names that stand for numbers: docs/LESSONS.md, "Lines and words". 2^32 is no number.
-use mathlib.Core.Bool.{Bool, true, false, _&&_, _||_, not}
+use mathlib.Core.Bool.{Bool, true, false, _&&_, _||_}
 use mathlib.Core.List.{List}
-use Prim.Native.Nat.{ℕ, _+_, _^_}
+use Prim.Native.Nat.{ℕ, _+_, _%_, _^_}
 use lib.Dec.{eqb, ltb, leb}
 use Rattle.model.specs.Base.{pick}
 use Rattle.names.specs.Scan.{byteAt, wordAt, value}
@@ -15,9 +15,9 @@ use Rattle.lines.specs.declared.numbers.Term.{Term}
 abbrev pub noNumber : ℕ
 noNumber = 2 ^ 32
 
--- a word, whether it is written as a number, and the number
-abbrev pub term : Word → Bool → ℕ → Term
-term w numeric n = record { from = w .from; to = w .to; numeric = numeric; number = n }
+-- a word, whether it is written as a number, the number, and the number of a name
+abbrev pub term : Word → Bool → ℕ → ℕ → Term
+term w numeric n name = record { from = w .from; to = w .to; numeric = numeric; number = n; word = n % 2 ^ 32; name = name }
 
 -- nothing stands there
 abbrev pub isEmpty : Term → Bool
@@ -36,18 +36,17 @@ isOther c = ltb c 48 || ltb 57 c
 
 -- a number begins with a decimal digit, and no name does
 unfoldable pub numeralOf : List ℕ → Word → Term
-numeralOf s w = pick (isOther (byteAt s (w .from))) (term w false noNumber) (term w true (digitsOf s w))
+numeralOf s w = pick (isOther (byteAt s (w .from))) (term w false noNumber noNumber) (term w true (digitsOf s w) noNumber)
 
 unfoldable pub numeral : List ℕ → ℕ → Term
 numeral s p = numeralOf s (wordAt s p)
 
+abbrev pub called : Term → ℕ → Term
+called t n = record { from = t .from; to = t .to; numeric = false; number = n; word = n % 2 ^ 32; name = n }
+
 abbrev pub foundOf : Term → Found → Term
-foundOf t f = pick (eqb (f .row) none) t (record { from = t .from; to = t .to; numeric = false; number = place f })
+foundOf t f = pick (eqb (f .row) none) t (called t (place f))
 
 -- a number, or what a name of a group stands for
 unfoldable pub byName : List ℕ → ℕ → Group → Term
 byName s p g = pick (numeral s p .numeric) (numeral s p) (foundOf (numeral s p) (named s (wordAt s p) g))
-
--- the name that stands for n
-abbrev pub isName : Term → ℕ → Bool
-isName t n = not (t .numeric) && eqb (t .number) n

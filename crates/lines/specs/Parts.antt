@@ -28,35 +28,37 @@ abbrev pub lineNames : Kind
 lineNames = record { group = Lines; last = 3; rule = 17; number = 0; alone = true; whole = noNumber }
 
 abbrev pub part : ℕ → ℕ → ℕ → Part
-part p w given = record { place = p; word = w; given = given; rule = 0; number = 0 }
+part p w given = record { place = p; word = w; given = given; rule = 0 }
 
 abbrev pub broken : ℕ → ℕ → ℕ → Part
-broken p rule n = record { place = p; word = 0; given = 0; rule = rule; number = n }
+broken p rule n = record { place = p; word = n; given = 0; rule = rule }
 
 -- ---- a field
 
--- the name at place p gives the number v to the bits from the one worth `bit` on, which have so many values: bits that are given
--- already, rule 7; a number that they can't hold, rule 3; another number than in the whole word, rule 8
-unfoldable pub withValues : Part → ℕ → ℕ → Term → ℕ → ℕ → Part
-withValues x whole p v bit range =
+-- the name at place p gives the number n, which stands at place q, to the bits from the one worth `bit` on, which have so many values;
+-- r is the place behind it. Bits that are given already: rule 7; a number that they can't hold: rule 3; another number than in the
+-- whole word: rule 8
+unfoldable pub withValues : Part → ℕ → ℕ → ℕ → ℕ → ℕ → ℕ → ℕ → Part
+withValues x whole p q r n bit range =
     pick (not (eqb (x .given / bit % range) 0)) (broken p 7 0)
-    (pick (leb range (v .number)) (broken (v .from) 3 (range - 1))
-    (pick (ltb whole noNumber && not (eqb (whole / bit % range) (v .number))) (broken p 8 (whole / bit % range))
-    (part (v .to) ((x .word + v .number * bit) % 2 ^ 32) ((x .given + (range - 1) * bit) % 2 ^ 32))))
+    (pick (ltb (range - 1) n) (broken q 3 (range - 1))
+    (pick (ltb whole noNumber && not (eqb (whole / bit % range) n)) (broken p 8 (whole / bit % range))
+    (part r (x .word % 2 ^ 32 + n * bit) (x .given % 2 ^ 32 + (range - 1) * bit))))
 
--- from bit b on, so many bits; no field goes past bit 31
-unfoldable pub withBits : Part → ℕ → ℕ → Term → ℕ → ℕ → Part
-withBits x whole p v b size = withValues x whole p v (2 ^ (b % 32)) (2 ^ (size % 32))
+-- from bit b on, so many bits; the remainders never act: no field goes past bit 31
+unfoldable pub withBits : Part → ℕ → ℕ → ℕ → ℕ → ℕ → ℕ → ℕ → Part
+withBits x whole p q r n b size = withValues x whole p q r n (2 ^ (b % 32)) (2 ^ (size % 32))
 
--- a field of one bit is 1 where no number stands behind its name
-abbrev pub numberOf : Kind → Word → ℕ → Term → Term
-numberOf k w size v =
-    pick (eqb size 1 && (k .alone || not (v .numeric))) (record { from = w .to; to = w .to; numeric = false; number = 1 }) v
+-- a field of one bit is 1 where no number stands behind its name, which v is then not
+abbrev pub numbered : Kind → Part → Word → Term → ℕ → ℕ → Part
+numbered k x w v b size =
+    pick (eqb size 1 && (k .alone || not (v .numeric))) (withBits x (k .whole) (w .from) (w .to) (w .to) 1 b size)
+    (withBits x (k .whole) (w .from) (v .from) (v .to) (v .number) b size)
 
 abbrev pub fieldOf : List ℕ → Kind → Part → Word → Found → Part
 fieldOf s k x w f =
     pick (eqb (f .row) none || ltb (k .last) (tables.place f)) (broken (w .from) (k .rule) (k .number))
-    (withBits x (k .whole) (w .from) (numberOf k w (tables.number (f .row) Size) (numeral s (w .to))) (tables.place f) (tables.number (f .row) Size))
+    (numbered k x w (numeral s (w .to)) (tables.place f) (tables.number (f .row) Size))
 
 unfoldable pub field : List ℕ → Kind → Part → Word → Part
 field s k x w = fieldOf s k x w (tables.named s w (k .group))

@@ -14,7 +14,6 @@ use model::WideFrame;
 use model::WideStep;
 use names::scan::Class;
 use names::scan::byte_at;
-use names::scan::digit_of;
 use names::scan::distance;
 use names::scan::run_end;
 use names::scan::value;
@@ -26,8 +25,10 @@ fn pairs(s: &[u8], to: usize, count: usize) -> u64
     ensures { λ r. ⌜ r ≡ frames.pairs (now (s .entry)) to count ⌝ }
 {
     let mut n: u64 = 0;
-    for i in 0..count {
-        let at = to - 2 * i - 2;
+    let mut i = 0;
+    while i < count {
+        i += 1;
+        let at = to - 2 * i;
         let byte = value(s, at, at + 2, true) % 256;
         n = n % 72057594037927936 * 256 + byte;
     }
@@ -45,36 +46,20 @@ fn finished(s: &[u8], to: usize, place: usize, f: WideFrame) -> Meaning
         return bad(place, WANTS_DATA, 0);
     }
     let at = place + 1;
-    let code = digit_of(byte_at(s, at));
+    let end = at + 1;
+    let code = value(s, at, end, true);
     if (code < 9) | (15 < code) {
         return bad(at, WANTS_CODE, 0);
     }
-    if at + 1 < to {
-        return bad(at + 1, WANTS_CODE, 0);
+    if end < to {
+        return bad(end, WANTS_CODE, 0);
     }
     let mut x = f;
     x.length = code as u32;
     alone(s, to, Meaning::Step(WideStep::Receive(x)))
 }
 
-// Behind the letter R.
-fn remote(s: &[u8], to: usize, place: usize, identifier: u32) -> Meaning
-    requires { do ⌜ place ≤ (← ⟦s.len()⟧) ⌝ }
-    ensures { λ r. ⌜ r ≡ frames.remote (now (s .entry)) to place identifier ⌝ }
-{
-    let digit = digit_of(byte_at(s, place));
-    if (8 < digit) & (place < to) {
-        return bad(place, WANTS_DATA, 0);
-    }
-    let f = WideFrame {
-        identifier: identifier,
-        low: 0,
-        high: 0,
-        length: (digit % 16) as u32,
-    };
-    finished(s, to, place + 1, f)
-}
-
+// Behind the hash a second one, a remote frame or data.
 fn behind_identifier(s: &[u8], to: usize, hash: usize, identifier: u32) -> Meaning
     requires { ⌜ identifier ≤ 0xFFFFFFFC ⌝ }
     ensures { λ r. ⌜ r ≡ frames.behindIdentifier (now (s .entry)) to hash identifier ⌝ }
@@ -88,19 +73,32 @@ fn behind_identifier(s: &[u8], to: usize, hash: usize, identifier: u32) -> Meani
         return bad(place, NO_FD, 0);
     }
     if c == b'R' {
-        return remote(s, to, place + 1, identifier + 2);
+        let at = place + 1;
+        let end = at + 1;
+        let digit = value(s, at, end, true);
+        if (8 < digit) & (at < to) {
+            return bad(at, WANTS_DATA, 0);
+        }
+        let f = WideFrame {
+            identifier: identifier + 2,
+            low: 0,
+            high: 0,
+            length: (digit % 16) as u32,
+        };
+        return finished(s, to, end, f);
     }
     let end = run_end(s, place, Class::HexDigit);
     let n = distance(place, end);
     if (n % 2 != 0) | (16 < n) {
         return bad(place, WANTS_DATA, 0);
     }
-    let d = pairs(s, end, n / 2);
+    let count = n / 2;
+    let d = pairs(s, end, count);
     let f = WideFrame {
         identifier: identifier,
         low: (d % 4294967296) as u32,
         high: (d / 4294967296) as u32,
-        length: (n / 2) as u32,
+        length: count as u32,
     };
     finished(s, to, end, f)
 }

@@ -139,45 +139,38 @@ fn last(s: &[u8], t: Term, limit: u64, rule: u32, number: u32, m: Meaning) -> Me
     alone(s, t.to, m)
 }
 
-fn error_line(s: &[u8], place: usize) -> Meaning
-    ensures { λ r. ⌜ r ≡ lines.errorLine (now (s .entry)) place ⌝ }
-{
-    let t = numeral(s, place);
-    if 255 < t.number {
-        return bad(t.from, WANTS_NUMBER, 255);
-    }
-    let u = numeral(s, t.to);
-    let raised = (u.number % 4294967296) as u32;
-    let m = Meaning::Step(WideStep::ReceiveError(t.number as u32, raised));
-    last(s, u, 255, WANTS_NUMBER, 255, m)
-}
-
+// By the number of the line's first word.
 fn number_line(s: &[u8], step: u64, place: usize) -> Meaning
     ensures { λ r. ⌜ r ≡ lines.numberLine (now (s .entry)) step place ⌝ }
 {
     match step {
         2 => {
             let t = by_name(s, place, Group::Registers);
-            let n = (t.number % 4294967296) as u32;
-            let m = Meaning::Step(WideStep::Read(n));
+            let m = Meaning::Step(WideStep::Read(t.word));
             last(s, t, 65535, WANTS_REGISTER, 0, m)
         }
         5 => {
             let t = numeral(s, place);
-            let n = (t.number % 4294967296) as u32;
-            let m = Meaning::Step(WideStep::BitTimes(n));
+            let m = Meaning::Step(WideStep::BitTimes(t.word));
             last(s, t, 65535, WANTS_NUMBER, 65535, m)
         }
         8 => {
             let t = by_name(s, place, Group::Results);
-            let n = (t.number % 4294967296) as u32;
-            let m = Meaning::Step(WideStep::Outcome(n));
+            let m = Meaning::Step(WideStep::Outcome(t.word));
             last(s, t, 255, WANTS_RESULT, 0, m)
+        }
+        10 => {
+            let t = numeral(s, place);
+            if 255 < t.number {
+                return bad(t.from, WANTS_NUMBER, 255);
+            }
+            let u = numeral(s, t.to);
+            let m = Meaning::Step(WideStep::ReceiveError(t.word, u.word));
+            last(s, u, 255, WANTS_NUMBER, 255, m)
         }
         _ => {
             let t = numeral(s, place);
-            let n = (t.number % 4294967296) as u32;
-            let m = Meaning::Repeat(n);
+            let m = Meaning::Repeat(t.word);
             last(s, t, 4294967295, WANTS_NUMBER, 4294967295, m)
         }
     }
@@ -185,10 +178,16 @@ fn number_line(s: &[u8], step: u64, place: usize) -> Meaning
 
 // ---- a line
 
-// By the number of its first word, which stands from one place up to another.
-fn line_of(s: &[u8], step: u64, from: usize, to: usize) -> Meaning
-    ensures { λ r. ⌜ r ≡ lines.lineOf (now (s .entry)) step from to ⌝ }
+// What a line means, without its line end.
+pub fn meaning_of(s: &[u8]) -> Meaning
+    ensures { λ r. ⌜ r ≡ lines.meaningOf (now (s .entry)) ⌝ }
 {
+    let t = by_name(s, 0, Group::Steps);
+    let to = t.to;
+    if to <= t.from {
+        return Meaning::Nothing;
+    }
+    let step = t.name;
     match step {
         1 => alone(s, to, Meaning::Step(WideStep::Reset)),
         3 => parts::write_line(s, to),
@@ -196,25 +195,10 @@ fn line_of(s: &[u8], step: u64, from: usize, to: usize) -> Meaning
         6 => alone(s, to, Meaning::Step(WideStep::Activity)),
         7 => alone(s, to, Meaning::Step(WideStep::Start)),
         9 => frames::frame_line(s, to),
-        10 => error_line(s, to),
         11 => expectations::expect_line(s, to),
         13 => alone(s, to, Meaning::Done),
         14 => parts::bytes_line(s, to),
-        2 | 5 | 8 | 12 => number_line(s, step, to),
-        _ => bad(from, WANTS_STEP, 0),
+        2 | 5 | 8 | 10 | 12 => number_line(s, step, to),
+        _ => bad(t.from, WANTS_STEP, 0),
     }
-}
-
-// What a line means, without its line end.
-pub fn meaning_of(s: &[u8]) -> Meaning
-    ensures { λ r. ⌜ r ≡ lines.meaningOf (now (s .entry)) ⌝ }
-{
-    let t = by_name(s, 0, Group::Steps);
-    if t.to <= t.from {
-        return Meaning::Nothing;
-    }
-    if t.numeric {
-        return bad(t.from, WANTS_STEP, 0);
-    }
-    line_of(s, t.number, t.from, t.to)
 }

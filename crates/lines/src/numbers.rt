@@ -9,12 +9,15 @@ use names::scan::word_at;
 
 pub(crate) const NO_NUMBER: u64 = 4294967296;
 
-// A word of a line: where it stands, whether it begins with a decimal digit, and the number that it stands for.
+// A word of a line: where it stands, whether it begins with a decimal digit, the number that it stands for, this number as a word, and
+// the number where it stands for it as a name.
 pub(crate) struct Term {
     pub(crate) from: usize,
     pub(crate) to: usize,
     pub(crate) numeric: bool,
     pub(crate) number: u64,
+    pub(crate) word: u32,
+    pub(crate) name: u64,
 }
 
 // The next word as a number: hex digits behind 0x, or decimal ones.
@@ -29,23 +32,31 @@ pub(crate) fn numeral(s: &[u8], place: usize) -> Term
             to: w.to,
             numeric: false,
             number: NO_NUMBER,
+            word: 0,
+            name: NO_NUMBER,
         };
     }
     let x = byte_at(s, w.from + 1);
     let digits = w.from + 2;
     if (first == b'0') & (x == b'x') & (digits < w.to) {
+        let n = value(s, digits, w.to, true);
         return Term {
             from: w.from,
             to: w.to,
             numeric: true,
-            number: value(s, digits, w.to, true),
+            number: n,
+            word: (n % 4294967296) as u32,
+            name: NO_NUMBER,
         };
     }
+    let n = value(s, w.from, w.to, false);
     Term {
         from: w.from,
         to: w.to,
         numeric: true,
-        number: value(s, w.from, w.to, false),
+        number: n,
+        word: (n % 4294967296) as u32,
+        name: NO_NUMBER,
     }
 }
 
@@ -61,10 +72,13 @@ pub(crate) fn by_name(s: &[u8], place: usize, g: Group) -> Term
     if f.row == NONE {
         return t;
     }
+    let n = names::place(f);
     Term {
         from: t.from,
         to: t.to,
         numeric: false,
-        number: names::place(f),
+        number: n,
+        word: (n % 4294967296) as u32,
+        name: n,
     }
 }

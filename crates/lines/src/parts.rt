@@ -12,7 +12,6 @@ use super::WANTS_REGISTER;
 use super::WANTS_VALUE;
 use super::bad;
 use super::numbers::NO_NUMBER;
-use super::numbers::Term;
 use super::numbers::by_name;
 use super::numbers::numeral;
 use model::WideStep;
@@ -21,7 +20,6 @@ use names::rows::Column;
 use names::rows::NONE;
 use names::scan::Class;
 use names::scan::Word;
-use names::scan::distance;
 use names::scan::run_end;
 use names::scan::word_at;
 
@@ -36,55 +34,64 @@ pub(crate) struct Kind {
     pub(crate) whole: u64,
 }
 
-// The words up to a place: the bits that they make, and which bits they gave; or the place where a rule is broken, with the rule's
-// number. Rule 0 is none.
+// The words up to a place: the bits that they make, and which bits they gave; or the place where a rule is broken, and as `word` the
+// rule's number. Rule 0 is none.
 pub(crate) struct Part {
     pub(crate) place: usize,
-    pub(crate) word: u32,
-    pub(crate) given: u32,
+    pub(crate) word: u64,
+    pub(crate) given: u64,
     pub(crate) rule: u32,
-    pub(crate) number: u32,
-}
-
-fn broken(place: usize, rule: u32, n: u32) -> Part
-    ensures { λ r. ⌜ r ≡ parts.broken place rule n ⌝ }
-{
-    Part {
-        place: place,
-        word: 0,
-        given: 0,
-        rule: rule,
-        number: n,
-    }
 }
 
 // ---- a field
 
-// A name at a place gives a number to the bits of a field. In a whole word they must have this number.
-fn with_bits(p: Part, whole: u64, at: usize, v: Term, first: u64, size: u32) -> Part
-    ensures { λ r. ⌜ r ≡ parts.withBits p whole at v first size ⌝ }
+// A name gives a number to the bits of a field: where the name stands, where the number does, and the place behind it. In a whole word the
+// bits must have this number.
+fn with_bits(
+    p: Part,
+    whole: u64,
+    at: usize,
+    from: usize,
+    to: usize,
+    n: u64,
+    first: u64,
+    size: u32,
+) -> Part
+    ensures { λ r. ⌜ r ≡ parts.withBits p whole at from to n first size ⌝ }
 {
     let bit: u64 = 1 << (first % 32);
-    let range: u64 = 1 << ((size as u64) % 32);
-    if (p.given as u64) / bit % range != 0 {
-        return broken(at, TWICE, 0);
+    let range: u64 = 1 << (size % 32);
+    let most = range - 1;
+    if p.given / bit % range != 0 {
+        return Part {
+            place: at,
+            word: 0,
+            given: 0,
+            rule: TWICE,
+        };
     }
-    let n = v.number;
-    if range <= n {
-        return broken(v.from, WANTS_NUMBER, (range - 1) as u32);
+    if most < n {
+        return Part {
+            place: from,
+            word: most,
+            given: 0,
+            rule: WANTS_NUMBER,
+        };
     }
     let value = whole / bit % range;
     if (whole < NO_NUMBER) & (value != n) {
-        return broken(at, OTHER_VALUE, value as u32);
+        return Part {
+            place: at,
+            word: value,
+            given: 0,
+            rule: OTHER_VALUE,
+        };
     }
-    let word = (p.word as u64) + n * bit;
-    let given = (p.given as u64) + (range - 1) * bit;
     Part {
-        place: v.to,
-        word: (word % 4294967296) as u32,
-        given: (given % 4294967296) as u32,
+        place: to,
+        word: p.word % 4294967296 + n * bit,
+        given: p.given % 4294967296 + most * bit,
         rule: 0,
-        number: 0,
     }
 }
 
@@ -96,20 +103,19 @@ fn field(s: &[u8], k: Kind, p: Part, w: Word) -> Part
     let f = names::named(s, w, g);
     let first = names::place(f);
     if (f.row == NONE) | (k.last < first) {
-        return broken(w.from, k.rule, k.number);
+        return Part {
+            place: w.from,
+            word: k.number as u64,
+            given: 0,
+            rule: k.rule,
+        };
     }
     let size = names::number(f.row, Column::Size);
     let v = numeral(s, w.to);
     if (size == 1) & (k.alone | !v.numeric) {
-        let set = Term {
-            from: w.to,
-            to: w.to,
-            numeric: false,
-            number: 1,
-        };
-        return with_bits(p, k.whole, w.from, set, first, size);
+        return with_bits(p, k.whole, w.from, w.to, w.to, 1, first, size);
     }
-    with_bits(p, k.whole, w.from, v, first, size)
+    with_bits(p, k.whole, w.from, v.from, v.to, v.number, first, size)
 }
 
 // ---- all words
@@ -123,14 +129,15 @@ pub(crate) fn all_words(s: &[u8], k: Kind, place: usize) -> Part
         word: 0,
         given: 0,
         rule: 0,
-        number: 0,
     };
-    for i in 0..s.len() {
+    let mut n = s.len();
+    while 0 < n {
         let w = word_at(s, p.place);
         if (p.rule != 0) | (w.to <= w.from) {
             return p;
         }
         p = field(s, k, p, w);
+        n -= 1;
     }
     p
 }
@@ -151,13 +158,14 @@ fn written(s: &[u8], offset: u32, place: usize, whole: u64) -> Meaning
         whole: whole,
     };
     let p = all_words(s, k, place);
+    let n = (p.word % 4294967296) as u32;
     if p.rule != 0 {
-        return bad(p.place, p.rule, p.number);
+        return bad(p.place, p.rule, n);
     }
     if whole < NO_NUMBER {
         return Meaning::Step(WideStep::Write(offset, whole as u32));
     }
-    Meaning::Step(WideStep::Write(offset, p.word))
+    Meaning::Step(WideStep::Write(offset, n))
 }
 
 pub(crate) fn write_line(s: &[u8], place: usize) -> Meaning
@@ -167,18 +175,17 @@ pub(crate) fn write_line(s: &[u8], place: usize) -> Meaning
     if 65535 < r.number {
         return bad(r.from, WANTS_REGISTER, 0);
     }
-    let offset = r.number as u32;
     let v = numeral(s, r.to);
     if v.to <= v.from {
-        return bad(v.from, WANTS_VALUE, offset);
+        return bad(v.from, WANTS_VALUE, r.word);
     }
-    if !v.numeric {
-        return written(s, offset, r.to, NO_NUMBER);
+    if v.number < NO_NUMBER {
+        return written(s, r.word, v.to, v.number);
     }
-    if 4294967295 < v.number {
+    if v.numeric {
         return bad(v.from, WANTS_NUMBER, 4294967295);
     }
-    written(s, offset, v.to, v.number)
+    written(s, r.word, r.to, NO_NUMBER)
 }
 
 pub(crate) fn bytes_line(s: &[u8], place: usize) -> Meaning
@@ -189,15 +196,17 @@ pub(crate) fn bytes_line(s: &[u8], place: usize) -> Meaning
     if w.to <= first {
         return bad(first, WANTS_PAIRS, 0);
     }
-    for i in 0..s.len() {
+    let mut n = s.len();
+    while 0 < n {
         if w.to <= w.from {
             return Meaning::Bytes(first);
         }
         let end = run_end(s, w.from, Class::HexDigit);
-        if (end < w.to) | (distance(w.from, end) % 2 != 0) {
+        if (end < w.to) | ((w.to - w.from) % 2 != 0) {
             return bad(w.from, WANTS_PAIRS, 0);
         }
         w = word_at(s, w.to);
+        n -= 1;
     }
     Meaning::Bytes(first)
 }

@@ -1,30 +1,137 @@
-use borrow.Author.Tests.{le-leb, lt-leb}
-use Rattle.lines.specs.Lines.{meaningOf}
+use borrow.Author.Tests.{le-leb, lt-leb, ne-eqb}
+use mathlib.Core.Logic.{_⊎_, inl, inr}
+use mathlib.Core.Path.{_≡_, _∙_}
+use mathlib.Core.List.{List}
+use Prim.Native.Nat.{ℕ, _<_}
+use Rattle.names.specs.declared.Group.the-variants.{Steps}
+use Rattle.lines.specs.Numbers.{byName}
+use Rattle.lines.specs.declared.numbers.Term.{Term}
+use Rattle.lines.specs.Lines.{meaningOf, lineOf, numberLine}
 use borrow.Author.Needs.{needs}
 use Rattle.lines.proofs.meaning_of.Statement.{statement}
 use Rattle.lines.proofs.meaning_of.Tie as tie
+
+numbered : (s : List ℕ) (n p q : ℕ) → (n ≡ 2) ⊎ ((n ≡ 5) ⊎ ((n ≡ 8) ⊎ ((n ≡ 10) ⊎ (n ≡ 12)))) → numberLine s n q ≡ lineOf s n p q
+unfolding lineOf
+numbered s n p q (inl e) = rw e
+numbered s n p q (inr (inl e)) = rw e
+numbered s n p q (inr (inr (inl e))) = rw e
+numbered s n p q (inr (inr (inr (inl e)))) = rw e
+numbered s n p q (inr (inr (inr (inr e)))) = rw e
+
+meant : (s : List ℕ) (t : Term) → t ≡ byName s 0 Steps → t .from < t .to → lineOf s (t .name) (t .from) (t .to) ≡ meaningOf s
+unfolding meaningOf
+meant s t e h = rw (← e, lt-leb (t .to) (t .from) h)
 
 by-name-requires : tie.Need-by-name-requires
 by-name-requires c κs = search needs
 
 returns : tie.Need-returns
-unfolding meaningOf
+unfolding meaningOf lineOf
 returns c = simp (le-leb _ _ (c .if1 .taken), ← c .before .before .by-name .ensures)
+
+alone-requires : tie.Need-alone-requires
+alone-requires c κs = search needs
+
+write-line-requires : tie.Need-write-line-requires
+write-line-requires c κs = search needs
+
+alone-requires-2 : tie.Need-alone-requires-2
+alone-requires-2 c κs = search needs
+
+alone-requires-3 : tie.Need-alone-requires-3
+alone-requires-3 c κs = search needs
+
+alone-requires-4 : tie.Need-alone-requires-4
+alone-requires-4 c κs = search needs
+
+frame-line-requires : tie.Need-frame-line-requires
+frame-line-requires c κs = search needs
+
+expect-line-requires : tie.Need-expect-line-requires
+expect-line-requires c κs = search needs
+
+alone-requires-5 : tie.Need-alone-requires-5
+alone-requires-5 c κs = search needs
+
+bytes-line-requires : tie.Need-bytes-line-requires
+bytes-line-requires c κs = search needs
+
+number-line-requires : tie.Need-number-line-requires
+number-line-requires c κs = search needs
 
 bad-requires : tie.Need-bad-requires
 bad-requires c κs = search needs
 
 returns-2 : tie.Need-returns-2
-unfolding meaningOf
-returns-2 c = simp (c .bad .ensures, c .before .if2 .taken, lt-leb _ _ (c .before .before .if1 .left), ← c .before .before .before .before .by-name .ensures)
-
-line-of-requires : tie.Need-line-of-requires
-line-of-requires c κs = search needs
+unfolding meaningOf lineOf
+returns-2 c = simp (c .alone .ensures, c .before .match .keys1, lt-leb _ _ (c .before .before .if1 .left), ← c .before .before .before .before .by-name .ensures)
 
 returns-3 : tie.Need-returns-3
-unfolding meaningOf
-returns-3 c = rw (← c .before .before .before .before .by-name .ensures, lt-leb _ _ (c .before .before .if1 .left), c .before .if2 .left, c .line-of .ensures)
+unfolding meaningOf lineOf
+returns-3 c = simp (c .write-line .ensures, c .before .match .keys2, lt-leb _ _ (c .before .before .if1 .left), ← c .before .before .before .before .by-name .ensures)
+
+returns-4 : tie.Need-returns-4
+unfolding meaningOf lineOf
+returns-4 c = simp (c .alone2 .ensures, c .before .match .keys3, lt-leb _ _ (c .before .before .if1 .left), ← c .before .before .before .before .by-name .ensures)
+
+returns-5 : tie.Need-returns-5
+unfolding meaningOf lineOf
+returns-5 c = simp (c .alone3 .ensures, c .before .match .keys4, lt-leb _ _ (c .before .before .if1 .left), ← c .before .before .before .before .by-name .ensures)
+
+returns-6 : tie.Need-returns-6
+unfolding meaningOf lineOf
+returns-6 c = simp (c .alone4 .ensures, c .before .match .keys5, lt-leb _ _ (c .before .before .if1 .left), ← c .before .before .before .before .by-name .ensures)
+
+returns-7 : tie.Need-returns-7
+unfolding meaningOf lineOf
+returns-7 c = simp (c .frame-line .ensures, c .before .match .keys6, lt-leb _ _ (c .before .before .if1 .left), ← c .before .before .before .before .by-name .ensures)
+
+returns-8 : tie.Need-returns-8
+unfolding meaningOf lineOf
+returns-8 c = simp (c .expect-line .ensures, c .before .match .keys7, lt-leb _ _ (c .before .before .if1 .left), ← c .before .before .before .before .by-name .ensures)
+
+returns-9 : tie.Need-returns-9
+unfolding meaningOf lineOf
+returns-9 c = simp (c .alone5 .ensures, c .before .match .keys8, lt-leb _ _ (c .before .before .if1 .left), ← c .before .before .before .before .by-name .ensures)
+
+returns-10 : tie.Need-returns-10
+unfolding meaningOf lineOf
+returns-10 c = simp (c .bytes-line .ensures, c .before .match .keys9, lt-leb _ _ (c .before .before .if1 .left), ← c .before .before .before .before .by-name .ensures)
+
+returns-11 : tie.Need-returns-11
+unfolding meaningOf lineOf
+returns-11 c = c .number-line .ensures ∙ numbered _ _ _ _ (c .before .match .keys10) ∙ meant _ _ (c .before .before .before .before .by-name .ensures) (c .before .before .if1 .left)
+
+returns-12 : tie.Need-returns-12
+unfolding meaningOf lineOf
+returns-12 c = let h = c .before .match .rest .1 in simp (c .bad .ensures, ne-eqb _ _ (c .before .match .rest .0 .0 .0 .0 .0 .0 .0 .0 .0 .1), ne-eqb _ _ (c .before .match .rest .0 .0 .0 .0 .0 .0 .0 .0 .1), ne-eqb _ _ (c .before .match .rest .0 .0 .0 .0 .0 .0 .0 .1), ne-eqb _ _ (c .before .match .rest .0 .0 .0 .0 .0 .0 .1), ne-eqb _ _ (c .before .match .rest .0 .0 .0 .0 .0 .1), ne-eqb _ _ (c .before .match .rest .0 .0 .0 .0 .1), ne-eqb _ _ (c .before .match .rest .0 .0 .0 .1), ne-eqb _ _ (c .before .match .rest .0 .0 .1), ne-eqb _ _ (c .before .match .rest .0 .1), ne-eqb _ 2 (λ e. h (inl e)), ne-eqb _ 5 (λ e. h (inr (inl e))), ne-eqb _ 8 (λ e. h (inr (inr (inl e)))), ne-eqb _ 10 (λ e. h (inr (inr (inr (inl e))))), ne-eqb _ 12 (λ e. h (inr (inr (inr (inr e))))), lt-leb _ _ (c .before .before .if1 .left), ← c .before .before .before .before .by-name .ensures)
 
 pub meaning-of-spec : {M : Type 1} → statement M
 meaning-of-spec =
-    tie.close (tie.spec by-name-requires returns bad-requires returns-2 line-of-requires returns-3)
+    tie.close
+    (tie.spec
+    by-name-requires
+    returns
+    alone-requires
+    write-line-requires
+    alone-requires-2
+    alone-requires-3
+    alone-requires-4
+    frame-line-requires
+    expect-line-requires
+    alone-requires-5
+    bytes-line-requires
+    number-line-requires
+    bad-requires
+    returns-2
+    returns-3
+    returns-4
+    returns-5
+    returns-6
+    returns-7
+    returns-8
+    returns-9
+    returns-10
+    returns-11
+    returns-12)

@@ -1,10 +1,9 @@
 use mathlib.Core.Bool.{not}
-use mathlib.Core.Path.{_∙_}
 use native.Mathlib.Omega.{arith}
-use lib.Dec.{eqb}
-use borrow.Author.Tests.{eqb-true, not-false}
+use lib.Dec.{eqb, ltb, lit≤}
+use borrow.Author.Tests.{eqb-true, not-false, ltb-false}
 use Rattle.model.proofs.Choices.{or-r}
-use Rattle.lines.proofs.Places.{inside}
+use Rattle.lines.proofs.Places.{near}
 use borrow.Author.Tests.{lt-ltb, le-ltb, le-leb, lt-leb}
 use Rattle.lines.specs.Frames.{finished}
 use borrow.Author.Needs.{needs}
@@ -31,45 +30,39 @@ returns-2 c = simp (c .bad .ensures, c .before .if2 .taken, ← c .before .befor
 add-at : tie.Need-add-at
 add-at c = search needs
 
-byte-at-requires-2 : tie.Need-byte-at-requires-2
-byte-at-requires-2 c κs = search needs
+add-end : tie.Need-add-end
+add-end c =
+    let a = c .before .before .before .before .before .args in
+    let b = c .before .byte-at .result in
+    let l = eqb-true b 95 (not-false (eqb b 95) (or-r (not (eqb (a .f .length) 8)) (not (eqb b 95)) (c .if2 .left))) in
+    record { fits = near (a .s .now) (a .place) b (c .before .byte-at .ensures) (rw l (lit≤ tt)) (c .before .before .before .before .before .good .0 .1) .second }
 
-digit-of-requires : tie.Need-digit-of-requires
-digit-of-requires c κs = search needs
+value-requires : tie.Need-value-requires
+value-requires c κs = search needs
 
 bad-requires-2 : tie.Need-bad-requires-2
 bad-requires-2 c κs = search needs
 
 returns-3 : tie.Need-returns-3
 unfolding finished
-returns-3 c = simp (c .bad2 .ensures, c .before .if3 .taken, ← c .before .before .digit-of .ensures, ← c .before .before .before .byte-at2 .ensures, c .before .before .before .before .if2 .left, ← c .before .before .before .before .before .byte-at .ensures, lt-leb _ _ (c .before .before .before .before .before .before .before .if1 .left))
-
-add-if4 : tie.Need-add-if4
-add-if4 c =
-    let a = c .before .before .before .before .before .before .before .before .args in
-    let b = c .before .before .before .before .byte-at .result in
-    let l = eqb-true b 95 (not-false (eqb b 95) (or-r (not (eqb (a .f .length) 8)) (not (eqb b 95)) (c .before .before .before .if2 .left))) in
-    record { fits = omega (arith, inside (a .s .now) (a .place) (λ e. omega (arith, l, c .before .before .before .before .byte-at .ensures ∙ e))) }
-
-add-bad : tie.Need-add-bad
-add-bad c = search needs
+returns-3 c = simp (c .bad2 .ensures, c .before .if3 .taken, ← c .before .before .value .ensures, c .before .before .before .if2 .left, ← c .before .before .before .before .byte-at .ensures, lt-leb _ _ (c .before .before .before .before .before .before .if1 .left))
 
 bad-requires-3 : tie.Need-bad-requires-3
 bad-requires-3 c κs = search needs
 
 returns-4 : tie.Need-returns-4
 unfolding finished
-returns-4 c = simp (c .bad3 .ensures, lt-ltb _ _ (c .before .if4 .taken), c .before .before .if3 .left, ← c .before .before .before .digit-of .ensures, ← c .before .before .before .before .byte-at2 .ensures, c .before .before .before .before .before .if2 .left, ← c .before .before .before .before .before .before .byte-at .ensures, lt-leb _ _ (c .before .before .before .before .before .before .before .before .if1 .left))
+returns-4 c = simp (c .bad3 .ensures, lt-ltb _ _ (c .before .if4 .taken), c .before .before .if3 .left, ← c .before .before .before .value .ensures, c .before .before .before .before .if2 .left, ← c .before .before .before .before .before .byte-at .ensures, lt-leb _ _ (c .before .before .before .before .before .before .before .if1 .left))
 
 cast-x : tie.Need-cast-x
-cast-x c = search needs
+cast-x c = let n = c .before .before .value .result in record { fits = omega (arith, ltb-false 15 n (or-r (ltb n 9) (ltb 15 n) (c .before .if3 .left))) }
 
 alone-requires-2 : tie.Need-alone-requires-2
 alone-requires-2 c κs = search needs
 
 returns-5 : tie.Need-returns-5
 unfolding finished
-returns-5 c = simp (c .alone2 .ensures, le-ltb _ _ (c .before .if4 .left), c .before .before .if3 .left, ← c .before .before .before .digit-of .ensures, ← c .before .before .before .before .byte-at2 .ensures, c .before .before .before .before .before .if2 .left, ← c .before .before .before .before .before .before .byte-at .ensures, lt-leb _ _ (c .before .before .before .before .before .before .before .before .if1 .left))
+returns-5 c = simp (c .alone2 .ensures, le-ltb _ _ (c .before .if4 .left), c .before .before .if3 .left, ← c .before .before .before .value .ensures, c .before .before .before .before .if2 .left, ← c .before .before .before .before .before .byte-at .ensures, lt-leb _ _ (c .before .before .before .before .before .before .before .if1 .left))
 
 pub finished-spec : {M : Type 1} → statement M
 finished-spec =
@@ -81,12 +74,10 @@ finished-spec =
     bad-requires
     returns-2
     add-at
-    byte-at-requires-2
-    digit-of-requires
+    add-end
+    value-requires
     bad-requires-2
     returns-3
-    add-if4
-    add-bad
     bad-requires-3
     returns-4
     cast-x

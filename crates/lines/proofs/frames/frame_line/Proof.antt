@@ -1,7 +1,5 @@
 use native.Mathlib.Omega.{arith}
-use lib.Dec.{eqb, leb}
-use borrow.Author.Tests.{leb-true}
-use Rattle.model.proofs.Choices.{and-r}
+use Rattle.lines.proofs.Identifiers.{standard, extended}
 use Rattle.lines.specs.Frames.{frameLine}
 use borrow.Author.Needs.{needs}
 use Rattle.lines.proofs.frames.frame_line.Statement.{statement}
@@ -20,29 +18,29 @@ value-requires : tie.Need-value-requires
 value-requires c κs = search needs
 
 mul-standard : tie.Need-mul-standard
-mul-standard c = let n = c .before .value .result in let m = c .before .before .distance .result in let l = leb-true n 2047 (and-r (eqb m 3) (leb n 2047) (c .if1 .taken)) in record { fits = omega (arith, l) }
+mul-standard c = record { fits = standard (c .before .before .distance .result) (c .before .value .result) (c .if1 .taken) .wide }
 
 cast-behind-identifier : tie.Need-cast-behind-identifier
-cast-behind-identifier c = let n = c .before .value .result in let m = c .before .before .distance .result in let l = leb-true n 2047 (and-r (eqb m 3) (leb n 2047) (c .if1 .taken)) in record { fits = omega (arith, l) }
+cast-behind-identifier c = record { fits = standard (c .before .before .distance .result) (c .before .value .result) (c .if1 .taken) .narrow }
 
 behind-identifier-requires : tie.Need-behind-identifier-requires
-behind-identifier-requires c κs = let n = c .before .value .result in let m = c .before .before .distance .result in let l = leb-true n 2047 (and-r (eqb m 3) (leb n 2047) (c .if1 .taken)) in omega (arith, l)
+behind-identifier-requires c κs = standard (c .before .before .distance .result) (c .before .value .result) (c .if1 .taken) .small
 
 returns : tie.Need-returns
 unfolding frameLine
 returns c = simp (c .behind-identifier .ensures, c .before .if1 .taken, ← c .before .before .value .ensures, ← c .before .before .before .distance .ensures, ← c .before .before .before .before .run-end .ensures, ← c .before .before .before .before .before .word-at .ensures)
 
 mul-extended : tie.Need-mul-extended
-mul-extended c = let n = c .before .before .value .result in let m = c .before .before .before .distance .result in let l = leb-true n 536870911 (and-r (eqb m 8) (leb n 536870911) (c .if2 .taken)) in record { fits = omega (arith, l) }
+mul-extended c = let e = extended (c .before .before .before .distance .result) (c .before .before .value .result) (c .if2 .taken) in record { fits = omega (arith, e .wide) }
 
 add-extended : tie.Need-add-extended
-add-extended c = let n = c .before .before .value .result in let m = c .before .before .before .distance .result in let l = leb-true n 536870911 (and-r (eqb m 8) (leb n 536870911) (c .if2 .taken)) in record { fits = omega (arith, l) }
+add-extended c = record { fits = extended (c .before .before .before .distance .result) (c .before .before .value .result) (c .if2 .taken) .wide }
 
 cast-behind-identifier-2 : tie.Need-cast-behind-identifier-2
-cast-behind-identifier-2 c = let n = c .before .before .value .result in let m = c .before .before .before .distance .result in let l = leb-true n 536870911 (and-r (eqb m 8) (leb n 536870911) (c .if2 .taken)) in record { fits = omega (arith, l) }
+cast-behind-identifier-2 c = record { fits = extended (c .before .before .before .distance .result) (c .before .before .value .result) (c .if2 .taken) .narrow }
 
 behind-identifier-requires-2 : tie.Need-behind-identifier-requires-2
-behind-identifier-requires-2 c κs = let n = c .before .before .value .result in let m = c .before .before .before .distance .result in let l = leb-true n 536870911 (and-r (eqb m 8) (leb n 536870911) (c .if2 .taken)) in omega (arith, l)
+behind-identifier-requires-2 c κs = extended (c .before .before .before .distance .result) (c .before .before .value .result) (c .if2 .taken) .small
 
 returns-2 : tie.Need-returns-2
 unfolding frameLine

@@ -2,9 +2,9 @@ use mathlib.Core.Path.{_≡_, refl, ap, _∙_}
 use Prim.Native.Nat.{_-_, _≤_}
 use native.Mathlib.Numerals.{add-one}
 use native.Mathlib.Omega.{arith}
+use borrow.Author.Tests.{le-ltb}
 use borrow.Author.Needs.{needs}
 use Rattle.lines.specs.Frames.{pairs}
-use borrow.Author.Tests.{le-ltb}
 use Rattle.lines.proofs.frames.pairs.Statement.{statement}
 use Rattle.lines.proofs.frames.pairs.Tie as tie
 
@@ -18,14 +18,14 @@ loop-holds : tie.Need-loop-holds Inv-loop μ-loop
 unfolding pairs
 loop-holds c = (refl, omega arith)
 
+add-i : tie.Need-add-i Inv-loop μ-loop
+add-i c = search needs
+
 mul-at : tie.Need-mul-at Inv-loop μ-loop
 mul-at c = search needs
 
 sub-at : tie.Need-sub-at Inv-loop μ-loop
 sub-at c = search needs
-
-sub-at-2 : tie.Need-sub-at-2 Inv-loop μ-loop
-sub-at-2 c = search needs
 
 add-value : tie.Need-add-value Inv-loop μ-loop
 add-value c = search needs
@@ -39,9 +39,6 @@ mul-n c = search needs
 add-n : tie.Need-add-n Inv-loop μ-loop
 add-n c = search needs
 
-add-i : tie.Need-add-i Inv-loop μ-loop
-add-i c = search needs
-
 loop-less : tie.Need-loop-less Inv-loop μ-loop
 loop-less c = search needs
 
@@ -49,10 +46,11 @@ loop-again : tie.Need-loop-again Inv-loop μ-loop
 unfolding pairs
 loop-again c =
     let l = c .before .before .loop in
-    (rw (add-one (l .i), ← l .inv .0, ← c .value .ensures), omega (arith, c .before .loop-test .taken))
+    (rw (c .value .ensures, add-one (l .i), l .inv .0), omega (arith, c .before .loop-test .taken))
 
 returns : tie.Need-returns Inv-loop μ-loop
-returns c = let l = c .before .loop in
+returns c =
+    let l = c .before .loop in
     let e : l .i ≡ c .before .before .before .args .count = omega (arith, l .inv .1, c .loop-test .left) in
     l .inv .0 ∙ ap (pairs _ _) e
 
@@ -63,14 +61,13 @@ pairs-spec =
     Inv-loop
     μ-loop
     loop-holds
+    add-i
     mul-at
     sub-at
-    sub-at-2
     add-value
     value-requires
     mul-n
     add-n
-    add-i
     loop-less
     loop-again
     returns)

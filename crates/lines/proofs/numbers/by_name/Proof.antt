@@ -24,6 +24,9 @@ returns-2 c = simp (eq-eqb _ _ (c .if2 .taken), ← c .before .before .named .en
 place-requires : tie.Need-place-requires
 place-requires c κs = search needs
 
+cast-t10 : tie.Need-cast-t10
+cast-t10 c = search needs
+
 returns-3 : tie.Need-returns-3
 unfolding byName
 returns-3 c = simp (c .place .ensures, ne-eqb _ _ (c .before .if2 .left), ← c .before .before .before .named .ensures, ← c .before .before .before .before .word-at .ensures, c .before .before .before .before .before .if1 .left, ← c .before .before .before .before .before .before .numeral .ensures)
@@ -38,4 +41,5 @@ by-name-spec =
     named-requires
     returns-2
     place-requires
+    cast-t10
     returns-3)

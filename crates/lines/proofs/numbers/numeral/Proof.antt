@@ -1,10 +1,8 @@
-use mathlib.Core.Path.{_∙_}
-use Prim.Native.Nat.{_≤_}
-use native.Mathlib.Omega.{arith}
-use lib.Dec.{ltb}
+use native.Mathlib.Nat.{le-trans}
+use lib.Dec.{ltb, lit≤}
 use borrow.Author.Tests.{ltb-false}
 use Rattle.model.proofs.Choices.{or-l}
-use Rattle.lines.proofs.Places.{inside}
+use Rattle.lines.proofs.Places.{near}
 use Rattle.lines.specs.Numbers.{numeral, numeralOf}
 use borrow.Author.Needs.{needs}
 use Rattle.lines.proofs.numbers.numeral.Statement.{statement}
@@ -23,8 +21,8 @@ returns c = simp (c .if1 .taken, ← c .before .byte-at .ensures, ← c .before 
 add-byte-at : tie.Need-add-byte-at
 add-byte-at c =
     let b = c .before .before .byte-at .result in
-    let l : 48 ≤ b = ltb-false b 48 (or-l (ltb b 48) (ltb 57 b) (c .before .if1 .left)) in
-    record { fits = omega (arith, inside (c .before .before .before .before .before .args .s .now) (c .before .before .before .word-at .result .from) (λ e. omega (arith, l, c .before .before .byte-at .ensures ∙ e))) }
+    let l = ltb-false b 48 (or-l (ltb b 48) (ltb 57 b) (c .before .if1 .left)) in
+    record { fits = near (c .before .before .before .before .before .args .s .now) (c .before .before .before .word-at .result .from) b (c .before .before .byte-at .ensures) (le-trans (lit≤ tt) l) (c .before .before .before .before .before .good .0 .1) .one }
 
 byte-at-requires-2 : tie.Need-byte-at-requires-2
 byte-at-requires-2 c κs = search needs
@@ -32,11 +30,14 @@ byte-at-requires-2 c κs = search needs
 add-digits : tie.Need-add-digits
 add-digits c =
     let b = c .before .before .before .before .byte-at .result in
-    let l : 48 ≤ b = ltb-false b 48 (or-l (ltb b 48) (ltb 57 b) (c .before .before .before .if1 .left)) in
-    record { fits = omega (arith, inside (c .before .before .before .before .before .before .before .args .s .now) (c .before .before .before .before .before .word-at .result .from) (λ e. omega (arith, l, c .before .before .before .before .byte-at .ensures ∙ e))) }
+    let l = ltb-false b 48 (or-l (ltb b 48) (ltb 57 b) (c .before .before .before .if1 .left)) in
+    record { fits = near (c .before .before .before .before .before .before .before .args .s .now) (c .before .before .before .before .before .word-at .result .from) b (c .before .before .before .before .byte-at .ensures) (le-trans (lit≤ tt) l) (c .before .before .before .before .before .before .before .good .0 .1) .two }
 
 value-requires : tie.Need-value-requires
 value-requires c κs = search needs
+
+cast-t16 : tie.Need-cast-t16
+cast-t16 c = search needs
 
 returns-2 : tie.Need-returns-2
 unfolding numeral numeralOf
@@ -44,6 +45,9 @@ returns-2 c = simp (c .value .ensures, c .before .if2 .taken, ← c .before .bef
 
 value-requires-2 : tie.Need-value-requires-2
 value-requires-2 c κs = search needs
+
+cast-t18 : tie.Need-cast-t18
+cast-t18 c = search needs
 
 returns-3 : tie.Need-returns-3
 unfolding numeral numeralOf
@@ -60,6 +64,8 @@ numeral-spec =
     byte-at-requires-2
     add-digits
     value-requires
+    cast-t16
     returns-2
     value-requires-2
+    cast-t18
     returns-3)

@@ -9,12 +9,12 @@ named-requires c κs = search needs
 place-requires : tie.Need-place-requires
 place-requires c κs = search needs
 
-broken-requires : tie.Need-broken-requires
-broken-requires c κs = search needs
+cast-t13 : tie.Need-cast-t13
+cast-t13 c = search needs
 
 returns : tie.Need-returns
 unfolding field
-returns c = simp (c .broken .ensures, c .before .if1 .taken, ← c .before .before .before .before .place .ensures, ← c .before .before .before .before .before .named .ensures)
+returns c = simp (c .before .if1 .taken, ← c .before .before .before .before .place .ensures, ← c .before .before .before .before .before .named .ensures)
 
 number-requires : tie.Need-number-requires
 number-requires c κs = search needs
@@ -42,7 +42,7 @@ field-spec =
     (tie.spec
     named-requires
     place-requires
-    broken-requires
+    cast-t13
     returns
     number-requires
     numeral-requires

@@ -14,9 +14,6 @@ returns : tie.Need-returns
 unfolding writeLine
 returns c = simp (c .bad .ensures, lt-ltb _ _ (c .before .if1 .taken), ← c .before .before .before .by-name .ensures)
 
-cast-offset : tie.Need-cast-offset
-cast-offset c = search needs
-
 numeral-requires : tie.Need-numeral-requires
 numeral-requires c κs = search needs
 
@@ -25,28 +22,28 @@ bad-requires-2 c κs = search needs
 
 returns-2 : tie.Need-returns-2
 unfolding writeLine
-returns-2 c = simp (c .bad2 .ensures, le-leb _ _ (c .before .if2 .taken), ← c .before .before .before .numeral .ensures, le-ltb _ _ (c .before .before .before .before .before .if1 .left), ← c .before .before .before .before .before .before .before .by-name .ensures)
+returns-2 c = simp (c .bad2 .ensures, le-leb _ _ (c .before .if2 .taken), ← c .before .before .before .numeral .ensures, le-ltb _ _ (c .before .before .before .before .if1 .left), ← c .before .before .before .before .before .before .by-name .ensures)
 
 written-requires : tie.Need-written-requires
 written-requires c κs = search needs
 
 returns-3 : tie.Need-returns-3
 unfolding writeLine
-returns-3 c = rw (← c .before .before .before .before .before .before .before .before .before .by-name .ensures, le-ltb _ _ (c .before .before .before .before .before .before .before .if1 .left), ← c .before .before .before .before .before .numeral .ensures, lt-leb _ _ (c .before .before .before .if2 .left), c .before .if3 .taken, c .written .ensures)
+returns-3 c = simp (c .written .ensures, lt-ltb _ _ (c .before .if3 .taken), lt-leb _ _ (c .before .before .before .if2 .left), ← c .before .before .before .before .before .numeral .ensures, le-ltb _ _ (c .before .before .before .before .before .before .if1 .left), ← c .before .before .before .before .before .before .before .before .by-name .ensures)
 
 bad-requires-3 : tie.Need-bad-requires-3
 bad-requires-3 c κs = search needs
 
 returns-4 : tie.Need-returns-4
 unfolding writeLine
-returns-4 c = simp (c .bad3 .ensures, lt-ltb _ _ (c .before .if4 .taken), c .before .before .before .if3 .left, lt-leb _ _ (c .before .before .before .before .before .if2 .left), ← c .before .before .before .before .before .before .before .numeral .ensures, le-ltb _ _ (c .before .before .before .before .before .before .before .before .before .if1 .left), ← c .before .before .before .before .before .before .before .before .before .before .before .by-name .ensures)
+returns-4 c = rw (← c .before .before .before .before .before .before .before .before .before .by-name .ensures, le-ltb _ _ (c .before .before .before .before .before .before .before .if1 .left), ← c .before .before .before .before .before .before .numeral .ensures, lt-leb _ _ (c .before .before .before .before .if2 .left), le-ltb _ _ (c .before .before .if3 .left), c .before .if4 .taken, c .bad3 .ensures)
 
 written-requires-2 : tie.Need-written-requires-2
 written-requires-2 c κs = search needs
 
 returns-5 : tie.Need-returns-5
 unfolding writeLine
-returns-5 c = rw (← c .before .before .before .before .before .before .before .before .before .before .before .by-name .ensures, le-ltb _ _ (c .before .before .before .before .before .before .before .before .before .if1 .left), ← c .before .before .before .before .before .before .before .numeral .ensures, lt-leb _ _ (c .before .before .before .before .before .if2 .left), c .before .before .before .if3 .left, le-ltb _ _ (c .before .if4 .left), c .written2 .ensures)
+returns-5 c = simp (c .written2 .ensures, c .before .if4 .left, le-ltb _ _ (c .before .before .if3 .left), lt-leb _ _ (c .before .before .before .before .if2 .left), ← c .before .before .before .before .before .before .numeral .ensures, le-ltb _ _ (c .before .before .before .before .before .before .before .if1 .left), ← c .before .before .before .before .before .before .before .before .before .by-name .ensures)
 
 pub write-line-spec : {M : Type 1} → statement M
 write-line-spec =
@@ -55,7 +52,6 @@ write-line-spec =
     by-name-requires
     bad-requires
     returns
-    cast-offset
     numeral-requires
     bad-requires-2
     returns-2

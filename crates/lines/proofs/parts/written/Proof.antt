@@ -10,23 +10,26 @@ register-at-requires c κs = search needs
 all-words-requires : tie.Need-all-words-requires
 all-words-requires c κs = search needs
 
+cast-n : tie.Need-cast-n
+cast-n c = search needs
+
 bad-requires : tie.Need-bad-requires
 bad-requires c κs = search needs
 
 returns : tie.Need-returns
 unfolding written
-returns c = simp (c .bad .ensures, ne-eqb _ _ (c .before .if1 .taken), ← c .before .before .before .all-words .ensures, ← c .before .before .before .before .register-at .ensures)
+returns c = simp (c .bad .ensures, ne-eqb _ _ (c .before .if1 .taken), ← c .before .before .before .before .all-words .ensures, ← c .before .before .before .before .before .register-at .ensures)
 
-cast-t10 : tie.Need-cast-t10
-cast-t10 c = search needs
+cast-t12 : tie.Need-cast-t12
+cast-t12 c = search needs
 
 returns-2 : tie.Need-returns-2
 unfolding written
-returns-2 c = simp (lt-ltb _ _ (c .if2 .taken), eq-eqb _ _ (c .before .if1 .left), ← c .before .before .before .all-words .ensures, ← c .before .before .before .before .register-at .ensures)
+returns-2 c = simp (lt-ltb _ _ (c .if2 .taken), eq-eqb _ _ (c .before .if1 .left), ← c .before .before .before .before .all-words .ensures, ← c .before .before .before .before .before .register-at .ensures)
 
 returns-3 : tie.Need-returns-3
 unfolding written
-returns-3 c = simp (le-ltb _ _ (c .if2 .left), eq-eqb _ _ (c .before .if1 .left), ← c .before .before .before .all-words .ensures, ← c .before .before .before .before .register-at .ensures)
+returns-3 c = simp (le-ltb _ _ (c .if2 .left), eq-eqb _ _ (c .before .if1 .left), ← c .before .before .before .before .all-words .ensures, ← c .before .before .before .before .before .register-at .ensures)
 
 pub written-spec : {M : Type 1} → statement M
 written-spec =
@@ -34,8 +37,9 @@ written-spec =
     (tie.spec
     register-at-requires
     all-words-requires
+    cast-n
     bad-requires
     returns
-    cast-t10
+    cast-t12
     returns-2
     returns-3)
