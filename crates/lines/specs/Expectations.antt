@@ -18,21 +18,24 @@ abbrev pub expected : Bool → ℕ → ℕ → Bool → ℕ → Expected
 expected answered code word lined lines =
     record { answered = answered; code = code; word = word; lined = lined; lines = lines }
 
--- an answer, or none, and lines
-abbrev pub linesOf : Bool → ℕ → ℕ → Part → Meaning
-linesOf b code word q =
-    pick (eqb (q .rule) 0) (Expect (expected b code word true (q .word % 256))) (bad (q .place) (q .rule) 0)
+abbrev pub linesOf : Expected → Part → Meaning
+linesOf x q =
+    pick (eqb (q .rule) 0) (Expect (expected (x .answered) (x .code) (x .word) (x .lined) (q .word % 256))) (bad (q .place) (q .rule) 0)
 
--- behind the word `lines`: none alone, or some lines; rule 17
-abbrev pub linesFrom : List ℕ → ℕ → Bool → ℕ → ℕ → Term → Meaning
-linesFrom s p b code word t =
-    pick (eqb (t .name) 4) (alone s (t .to) (Expect (expected b code word true 0)))
-    (pick (isEmpty t) (bad (t .from) 17 0) (linesOf b code word (allWords s lineNames p)))
+-- none alone, or some lines; rule 17
+abbrev pub linesFrom : List ℕ → ℕ → Expected → Term → Meaning
+linesFrom s p x t =
+    pick (eqb (t .name) 4) (alone s (t .to) (Expect x))
+    (pick (isEmpty t) (bad (t .from) 17 0) (linesOf x (allWords s lineNames p)))
+
+-- behind the word `lines`
+unfoldable pub withLines : List ℕ → ℕ → Expected → Meaning
+withLines s p x = linesFrom s p x (byName s p Lines)
 
 abbrev pub linesAt : List ℕ → Bool → ℕ → ℕ → ℕ → Term → Meaning
 linesAt s b code word rule t =
     pick (b && isEmpty t) (Expect (expected b code word false 0))
-    (pick (eqb (t .name) 2) (linesFrom s (t .to) b code word (byName s (t .to) Lines)) (bad (t .from) rule 0))
+    (pick (eqb (t .name) 2) (withLines s (t .to) (expected b code word true 0)) (bad (t .from) rule 0))
 
 -- behind an answer nothing, or lines; where none is given, lines
 unfoldable pub linesBehind : List ℕ → ℕ → Bool → ℕ → ℕ → ℕ → Meaning

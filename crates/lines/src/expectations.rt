@@ -17,6 +17,34 @@ use super::parts::Kind;
 use super::parts::all_words;
 use names::Group;
 
+// Behind the word `lines`.
+fn with_lines(s: &[u8], place: usize, x: Expected) -> Meaning
+    ensures { λ r. ⌜ r ≡ expectations.withLines (now (s .entry)) place x ⌝ }
+{
+    let t = by_name(s, place, Group::Lines);
+    if t.name == 4 {
+        return alone(s, t.to, Meaning::Expect(x));
+    }
+    if t.to <= t.from {
+        return bad(t.from, WANTS_LINES, 0);
+    }
+    let k = Kind {
+        group: Group::Lines,
+        last: 3,
+        rule: WANTS_LINES,
+        number: 0,
+        alone: true,
+        whole: NO_NUMBER,
+    };
+    let p = all_words(s, k, place);
+    if p.rule != 0 {
+        return bad(p.place, p.rule, 0);
+    }
+    let mut y = x;
+    y.lines = (p.word % 256) as u8;
+    Meaning::Expect(y)
+}
+
 // Behind an answer nothing, or the interrupt lines; where none is given, the lines.
 fn lines_behind(s: &[u8], place: usize, answered: bool, code: u8, word: u32, rule: u32) -> Meaning
     ensures { λ r. ⌜ r ≡ expectations.linesBehind (now (s .entry)) place answered code word rule ⌝ }
@@ -36,27 +64,7 @@ fn lines_behind(s: &[u8], place: usize, answered: bool, code: u8, word: u32, rul
         return bad(t.from, rule, 0);
     }
     x.lined = true;
-    let l = by_name(s, t.to, Group::Lines);
-    if l.name == 4 {
-        return alone(s, l.to, Meaning::Expect(x));
-    }
-    if l.to <= l.from {
-        return bad(l.from, WANTS_LINES, 0);
-    }
-    let k = Kind {
-        group: Group::Lines,
-        last: 3,
-        rule: WANTS_LINES,
-        number: 0,
-        alone: true,
-        whole: NO_NUMBER,
-    };
-    let p = all_words(s, k, t.to);
-    if p.rule != 0 {
-        return bad(p.place, p.rule, 0);
-    }
-    x.lines = (p.word % 256) as u8;
-    Meaning::Expect(x)
+    with_lines(s, t.to, x)
 }
 
 pub(crate) fn expect_line(s: &[u8], place: usize) -> Meaning

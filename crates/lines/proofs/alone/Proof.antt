@@ -9,14 +9,14 @@ word-at-requires c κs = search needs
 
 returns : tie.Need-returns
 unfolding alone
-returns c = simp (le-leb _ _ (c .if1 .taken), ← c .before .before .word-at .ensures)
+returns c = rw (← c .before .before .word-at .ensures, le-leb _ _ (c .if1 .taken))
 
 bad-requires : tie.Need-bad-requires
 bad-requires c κs = search needs
 
 returns-2 : tie.Need-returns-2
 unfolding alone
-returns-2 c = simp (c .bad .ensures, lt-leb _ _ (c .before .if1 .left), ← c .before .before .before .word-at .ensures)
+returns-2 c = rw (← c .before .before .before .word-at .ensures, lt-leb _ _ (c .before .if1 .left), c .bad .ensures)
 
 pub alone-spec : {M : Type 1} → statement M
 alone-spec = tie.close (tie.spec word-at-requires returns bad-requires returns-2)

@@ -9,14 +9,14 @@ bad-requires c κs = search needs
 
 returns : tie.Need-returns
 unfolding last
-returns c = simp (c .bad .ensures, lt-ltb _ _ (c .before .if1 .taken))
+returns c = rw (lt-ltb _ _ (c .before .if1 .taken), c .bad .ensures)
 
 alone-requires : tie.Need-alone-requires
 alone-requires c κs = search needs
 
 returns-2 : tie.Need-returns-2
 unfolding last
-returns-2 c = simp (c .alone .ensures, le-ltb _ _ (c .before .if1 .left))
+returns-2 c = rw (le-ltb _ _ (c .before .if1 .left), c .alone .ensures)
 
 pub last-spec : {M : Type 1} → statement M
 last-spec = tie.close (tie.spec bad-requires returns alone-requires returns-2)

@@ -30,7 +30,7 @@ bad-requires c κs = search needs
 
 returns : tie.Need-returns
 unfolding numberLine
-returns c = simp (c .bad .ensures, lt-ltb _ _ (c .before .if1 .taken), ← c .before .before .before .numeral2 .ensures, c .before .before .before .before .match .keys4)
+returns c = rw (c .before .before .before .before .match .keys4, ← c .before .before .before .numeral2 .ensures, lt-ltb _ _ (c .before .if1 .taken), c .bad .ensures)
 
 numeral-requires-3 : tie.Need-numeral-requires-3
 numeral-requires-3 c κs = search needs
@@ -46,23 +46,23 @@ last-requires-5 c κs = search needs
 
 returns-2 : tie.Need-returns-2
 unfolding numberLine
-returns-2 c = simp (c .last .ensures, ← c .before .by-name .ensures, c .before .before .match .keys1)
+returns-2 c = rw (c .before .before .match .keys1, ← c .before .by-name .ensures, c .last .ensures)
 
 returns-3 : tie.Need-returns-3
 unfolding numberLine
-returns-3 c = simp (c .last2 .ensures, ← c .before .numeral .ensures, c .before .before .match .keys2)
+returns-3 c = rw (c .before .before .match .keys2, ← c .before .numeral .ensures, c .last2 .ensures)
 
 returns-4 : tie.Need-returns-4
 unfolding numberLine
-returns-4 c = simp (c .last3 .ensures, ← c .before .by-name2 .ensures, c .before .before .match .keys3)
+returns-4 c = rw (c .before .before .match .keys3, ← c .before .by-name2 .ensures, c .last3 .ensures)
 
 returns-5 : tie.Need-returns-5
 unfolding numberLine
-returns-5 c = simp (c .last4 .ensures, ← c .before .numeral3 .ensures, le-ltb _ _ (c .before .before .if1 .left), ← c .before .before .before .before .numeral2 .ensures, c .before .before .before .before .before .match .keys4)
+returns-5 c = rw (c .before .before .before .before .before .match .keys4, ← c .before .before .before .before .numeral2 .ensures, le-ltb _ _ (c .before .before .if1 .left), ← c .before .numeral3 .ensures, c .last4 .ensures)
 
 returns-6 : tie.Need-returns-6
 unfolding numberLine
-returns-6 c = simp (c .last5 .ensures, ← c .before .numeral4 .ensures, ne-eqb _ _ (c .before .before .match .rest .0 .0 .0 .1), ne-eqb _ _ (c .before .before .match .rest .0 .0 .1), ne-eqb _ _ (c .before .before .match .rest .0 .1), ne-eqb _ _ (c .before .before .match .rest .1))
+returns-6 c = rw (ne-eqb _ _ (c .before .before .match .rest .1), ne-eqb _ _ (c .before .before .match .rest .0 .1), ne-eqb _ _ (c .before .before .match .rest .0 .0 .1), ne-eqb _ _ (c .before .before .match .rest .0 .0 .0 .1), ← c .before .numeral4 .ensures, c .last5 .ensures)
 
 pub number-line-spec : {M : Type 1} → statement M
 number-line-spec =

@@ -19,7 +19,7 @@ bad-requires c κs = search needs
 
 returns : tie.Need-returns
 unfolding behindIdentifier
-returns c = simp (c .bad .ensures, ne-eqb _ _ (c .before .if1 .taken), ← c .before .before .byte-at .ensures)
+returns c = rw (← c .before .before .byte-at .ensures, ne-eqb _ _ (c .before .if1 .taken), c .bad .ensures)
 
 add-place : tie.Need-add-place
 add-place c = let a = c .before .before .before .args in record { fits = near (a .s .now) (a .hash) (c .before .byte-at .result) (c .before .byte-at .ensures) (rw (c .if1 .left) (lit≤ tt)) (c .before .before .before .good .0 .1) .one }
@@ -32,7 +32,7 @@ bad-requires-2 c κs = search needs
 
 returns-2 : tie.Need-returns-2
 unfolding behindIdentifier
-returns-2 c = simp (c .bad2 .ensures, eq-eqb _ _ (c .before .if2 .taken), ← c .before .before .byte-at2 .ensures, eq-eqb _ _ (c .before .before .before .if1 .left), ← c .before .before .before .before .byte-at .ensures)
+returns-2 c = rw (← c .before .before .before .before .byte-at .ensures, eq-eqb _ _ (c .before .before .before .if1 .left), ← c .before .before .byte-at2 .ensures, eq-eqb _ _ (c .before .if2 .taken), c .bad2 .ensures)
 
 add-at : tie.Need-add-at
 add-at c = let a = c .before .before .before .before .before .before .args in record { fits = near (a .s .now) (a .hash) (c .before .before .before .before .byte-at .result) (c .before .before .before .before .byte-at .ensures) (rw (c .before .before .before .if1 .left) (lit≤ tt)) (c .before .before .before .before .before .before .good .0 .1) .second }
@@ -48,7 +48,7 @@ bad-requires-3 c κs = search needs
 
 returns-3 : tie.Need-returns-3
 unfolding behindIdentifier
-returns-3 c = simp (c .bad3 .ensures, c .before .if4 .taken, ← c .before .before .value .ensures, eq-eqb _ _ (c .before .before .before .if3 .taken), ne-eqb _ _ (c .before .before .before .before .if2 .left), ← c .before .before .before .before .before .byte-at2 .ensures, eq-eqb _ _ (c .before .before .before .before .before .before .if1 .left), ← c .before .before .before .before .before .before .before .byte-at .ensures)
+returns-3 c = rw (← c .before .before .before .before .before .before .before .byte-at .ensures, eq-eqb _ _ (c .before .before .before .before .before .before .if1 .left), ← c .before .before .before .before .before .byte-at2 .ensures, ne-eqb _ _ (c .before .before .before .before .if2 .left), eq-eqb _ _ (c .before .before .before .if3 .taken), ← c .before .before .value .ensures, c .before .if4 .taken, c .bad3 .ensures)
 
 add-t21 : tie.Need-add-t21
 add-t21 c = search needs
@@ -61,7 +61,7 @@ finished-requires c κs = search needs
 
 returns-4 : tie.Need-returns-4
 unfolding behindIdentifier
-returns-4 c = simp (c .finished .ensures, c .before .if4 .left, ← c .before .before .value .ensures, eq-eqb _ _ (c .before .before .before .if3 .taken), ne-eqb _ _ (c .before .before .before .before .if2 .left), ← c .before .before .before .before .before .byte-at2 .ensures, eq-eqb _ _ (c .before .before .before .before .before .before .if1 .left), ← c .before .before .before .before .before .before .before .byte-at .ensures)
+returns-4 c = rw (← c .before .before .before .before .before .before .before .byte-at .ensures, eq-eqb _ _ (c .before .before .before .before .before .before .if1 .left), ← c .before .before .before .before .before .byte-at2 .ensures, ne-eqb _ _ (c .before .before .before .before .if2 .left), eq-eqb _ _ (c .before .before .before .if3 .taken), ← c .before .before .value .ensures, c .before .if4 .left, c .finished .ensures)
 
 run-end-requires : tie.Need-run-end-requires
 run-end-requires c κs = search needs
@@ -74,7 +74,7 @@ bad-requires-4 c κs = search needs
 
 returns-5 : tie.Need-returns-5
 unfolding behindIdentifier
-returns-5 c = simp (c .bad4 .ensures, c .before .if5 .taken, ← c .before .before .distance .ensures, ← c .before .before .before .run-end .ensures, ne-eqb _ _ (c .before .before .before .before .if3 .left), ne-eqb _ _ (c .before .before .before .before .before .if2 .left), ← c .before .before .before .before .before .before .byte-at2 .ensures, eq-eqb _ _ (c .before .before .before .before .before .before .before .if1 .left), ← c .before .before .before .before .before .before .before .before .byte-at .ensures)
+returns-5 c = rw (← c .before .before .before .before .before .before .before .before .byte-at .ensures, eq-eqb _ _ (c .before .before .before .before .before .before .before .if1 .left), ← c .before .before .before .before .before .before .byte-at2 .ensures, ne-eqb _ _ (c .before .before .before .before .before .if2 .left), ne-eqb _ _ (c .before .before .before .before .if3 .left), ← c .before .before .before .run-end .ensures, ← c .before .before .distance .ensures, c .before .if5 .taken, c .bad4 .ensures)
 
 pairs-requires : tie.Need-pairs-requires
 pairs-requires c κs = search needs
@@ -93,7 +93,7 @@ finished-requires-2 c κs = search needs
 
 returns-6 : tie.Need-returns-6
 unfolding behindIdentifier
-returns-6 c = simp (c .finished2 .ensures, ← c .before .pairs .ensures, c .before .before .if5 .left, ← c .before .before .before .distance .ensures, ← c .before .before .before .before .run-end .ensures, ne-eqb _ _ (c .before .before .before .before .before .if3 .left), ne-eqb _ _ (c .before .before .before .before .before .before .if2 .left), ← c .before .before .before .before .before .before .before .byte-at2 .ensures, eq-eqb _ _ (c .before .before .before .before .before .before .before .before .if1 .left), ← c .before .before .before .before .before .before .before .before .before .byte-at .ensures)
+returns-6 c = rw (← c .before .before .before .before .before .before .before .before .before .byte-at .ensures, eq-eqb _ _ (c .before .before .before .before .before .before .before .before .if1 .left), ← c .before .before .before .before .before .before .before .byte-at2 .ensures, ne-eqb _ _ (c .before .before .before .before .before .before .if2 .left), ne-eqb _ _ (c .before .before .before .before .before .if3 .left), ← c .before .before .before .before .run-end .ensures, ← c .before .before .before .distance .ensures, c .before .before .if5 .left, ← c .before .pairs .ensures, c .finished2 .ensures)
 
 pub behind-identifier-spec : {M : Type 1} → statement M
 behind-identifier-spec =

@@ -15,7 +15,7 @@ alone-requires c κs = search needs
 
 returns : tie.Need-returns
 unfolding finished
-returns c = simp (c .alone .ensures, le-leb _ _ (c .before .if1 .taken))
+returns c = rw (le-leb _ _ (c .before .if1 .taken), c .alone .ensures)
 
 byte-at-requires : tie.Need-byte-at-requires
 byte-at-requires c κs = search needs
@@ -25,7 +25,7 @@ bad-requires c κs = search needs
 
 returns-2 : tie.Need-returns-2
 unfolding finished
-returns-2 c = simp (c .bad .ensures, c .before .if2 .taken, ← c .before .before .byte-at .ensures, lt-leb _ _ (c .before .before .before .before .if1 .left))
+returns-2 c = rw (lt-leb _ _ (c .before .before .before .before .if1 .left), ← c .before .before .byte-at .ensures, c .before .if2 .taken, c .bad .ensures)
 
 add-at : tie.Need-add-at
 add-at c = search needs
@@ -45,14 +45,14 @@ bad-requires-2 c κs = search needs
 
 returns-3 : tie.Need-returns-3
 unfolding finished
-returns-3 c = simp (c .bad2 .ensures, c .before .if3 .taken, ← c .before .before .value .ensures, c .before .before .before .if2 .left, ← c .before .before .before .before .byte-at .ensures, lt-leb _ _ (c .before .before .before .before .before .before .if1 .left))
+returns-3 c = rw (lt-leb _ _ (c .before .before .before .before .before .before .if1 .left), ← c .before .before .before .before .byte-at .ensures, c .before .before .before .if2 .left, ← c .before .before .value .ensures, c .before .if3 .taken, c .bad2 .ensures)
 
 bad-requires-3 : tie.Need-bad-requires-3
 bad-requires-3 c κs = search needs
 
 returns-4 : tie.Need-returns-4
 unfolding finished
-returns-4 c = simp (c .bad3 .ensures, lt-ltb _ _ (c .before .if4 .taken), c .before .before .if3 .left, ← c .before .before .before .value .ensures, c .before .before .before .before .if2 .left, ← c .before .before .before .before .before .byte-at .ensures, lt-leb _ _ (c .before .before .before .before .before .before .before .if1 .left))
+returns-4 c = rw (lt-leb _ _ (c .before .before .before .before .before .before .before .if1 .left), ← c .before .before .before .before .before .byte-at .ensures, c .before .before .before .before .if2 .left, ← c .before .before .before .value .ensures, c .before .before .if3 .left, lt-ltb _ _ (c .before .if4 .taken), c .bad3 .ensures)
 
 cast-x : tie.Need-cast-x
 cast-x c = let n = c .before .before .value .result in record { fits = omega (arith, ltb-false 15 n (or-r (ltb n 9) (ltb 15 n) (c .before .if3 .left))) }
@@ -62,7 +62,7 @@ alone-requires-2 c κs = search needs
 
 returns-5 : tie.Need-returns-5
 unfolding finished
-returns-5 c = simp (c .alone2 .ensures, le-ltb _ _ (c .before .if4 .left), c .before .before .if3 .left, ← c .before .before .before .value .ensures, c .before .before .before .before .if2 .left, ← c .before .before .before .before .before .byte-at .ensures, lt-leb _ _ (c .before .before .before .before .before .before .before .if1 .left))
+returns-5 c = rw (lt-leb _ _ (c .before .before .before .before .before .before .before .if1 .left), ← c .before .before .before .before .before .byte-at .ensures, c .before .before .before .before .if2 .left, ← c .before .before .before .value .ensures, c .before .before .if3 .left, le-ltb _ _ (c .before .if4 .left), c .alone2 .ensures)
 
 pub finished-spec : {M : Type 1} → statement M
 finished-spec =

@@ -28,7 +28,7 @@ behind-identifier-requires c κs = standard (c .before .before .distance .result
 
 returns : tie.Need-returns
 unfolding frameLine
-returns c = simp (c .behind-identifier .ensures, c .before .if1 .taken, ← c .before .before .value .ensures, ← c .before .before .before .distance .ensures, ← c .before .before .before .before .run-end .ensures, ← c .before .before .before .before .before .word-at .ensures)
+returns c = rw (← c .before .before .before .before .before .word-at .ensures, ← c .before .before .before .before .run-end .ensures, ← c .before .before .before .distance .ensures, ← c .before .before .value .ensures, c .before .if1 .taken, c .behind-identifier .ensures)
 
 mul-extended : tie.Need-mul-extended
 mul-extended c = let e = extended (c .before .before .before .distance .result) (c .before .before .value .result) (c .if2 .taken) in record { fits = omega (arith, e .wide) }
@@ -44,14 +44,14 @@ behind-identifier-requires-2 c κs = extended (c .before .before .before .distan
 
 returns-2 : tie.Need-returns-2
 unfolding frameLine
-returns-2 c = simp (c .behind-identifier2 .ensures, c .before .if2 .taken, c .before .before .if1 .left, ← c .before .before .before .value .ensures, ← c .before .before .before .before .distance .ensures, ← c .before .before .before .before .before .run-end .ensures, ← c .before .before .before .before .before .before .word-at .ensures)
+returns-2 c = rw (← c .before .before .before .before .before .before .word-at .ensures, ← c .before .before .before .before .before .run-end .ensures, ← c .before .before .before .before .distance .ensures, ← c .before .before .before .value .ensures, c .before .before .if1 .left, c .before .if2 .taken, c .behind-identifier2 .ensures)
 
 bad-requires : tie.Need-bad-requires
 bad-requires c κs = search needs
 
 returns-3 : tie.Need-returns-3
 unfolding frameLine
-returns-3 c = simp (c .bad .ensures, c .before .if2 .left, c .before .before .if1 .left, ← c .before .before .before .value .ensures, ← c .before .before .before .before .distance .ensures, ← c .before .before .before .before .before .run-end .ensures, ← c .before .before .before .before .before .before .word-at .ensures)
+returns-3 c = rw (← c .before .before .before .before .before .before .word-at .ensures, ← c .before .before .before .before .before .run-end .ensures, ← c .before .before .before .before .distance .ensures, ← c .before .before .before .value .ensures, c .before .before .if1 .left, c .before .if2 .left, c .bad .ensures)
 
 pub frame-line-spec : {M : Type 1} → statement M
 frame-line-spec =

@@ -9,7 +9,7 @@ numeral-requires c κs = search needs
 
 returns : tie.Need-returns
 unfolding byName
-returns c = simp (c .if1 .taken, ← c .before .numeral .ensures)
+returns c = rw (← c .before .numeral .ensures, c .if1 .taken)
 
 word-at-requires : tie.Need-word-at-requires
 word-at-requires c κs = search needs
@@ -19,7 +19,7 @@ named-requires c κs = search needs
 
 returns-2 : tie.Need-returns-2
 unfolding byName
-returns-2 c = simp (eq-eqb _ _ (c .if2 .taken), ← c .before .before .named .ensures, ← c .before .before .before .word-at .ensures, c .before .before .before .before .if1 .left, ← c .before .before .before .before .before .numeral .ensures)
+returns-2 c = rw (← c .before .before .before .before .before .numeral .ensures, c .before .before .before .before .if1 .left, ← c .before .before .before .word-at .ensures, ← c .before .before .named .ensures, eq-eqb _ _ (c .if2 .taken))
 
 place-requires : tie.Need-place-requires
 place-requires c κs = search needs
@@ -29,7 +29,7 @@ cast-t10 c = search needs
 
 returns-3 : tie.Need-returns-3
 unfolding byName
-returns-3 c = simp (c .place .ensures, ne-eqb _ _ (c .before .if2 .left), ← c .before .before .before .named .ensures, ← c .before .before .before .before .word-at .ensures, c .before .before .before .before .before .if1 .left, ← c .before .before .before .before .before .before .numeral .ensures)
+returns-3 c = rw (← c .before .before .before .before .before .before .numeral .ensures, c .before .before .before .before .before .if1 .left, ← c .before .before .before .before .word-at .ensures, ← c .before .before .before .named .ensures, ne-eqb _ _ (c .before .if2 .left), c .place .ensures)
 
 pub by-name-spec : {M : Type 1} → statement M
 by-name-spec =

@@ -16,7 +16,7 @@ byte-at-requires c κs = search needs
 
 returns : tie.Need-returns
 unfolding numeral numeralOf
-returns c = simp (c .if1 .taken, ← c .before .byte-at .ensures, ← c .before .before .word-at .ensures)
+returns c = rw (← c .before .before .word-at .ensures, ← c .before .byte-at .ensures, c .if1 .taken)
 
 add-byte-at : tie.Need-add-byte-at
 add-byte-at c =
@@ -41,7 +41,7 @@ cast-t16 c = search needs
 
 returns-2 : tie.Need-returns-2
 unfolding numeral numeralOf
-returns-2 c = simp (c .value .ensures, c .before .if2 .taken, ← c .before .before .before .before .byte-at2 .ensures, c .before .before .before .before .before .before .if1 .left, ← c .before .before .before .before .before .before .before .byte-at .ensures, ← c .before .before .before .before .before .before .before .before .word-at .ensures)
+returns-2 c = rw (← c .before .before .before .before .before .before .before .before .word-at .ensures, ← c .before .before .before .before .before .before .before .byte-at .ensures, c .before .before .before .before .before .before .if1 .left, ← c .before .before .before .before .byte-at2 .ensures, c .before .if2 .taken, c .value .ensures)
 
 value-requires-2 : tie.Need-value-requires-2
 value-requires-2 c κs = search needs
@@ -51,7 +51,7 @@ cast-t18 c = search needs
 
 returns-3 : tie.Need-returns-3
 unfolding numeral numeralOf
-returns-3 c = simp (c .value2 .ensures, c .before .if2 .left, ← c .before .before .before .before .byte-at2 .ensures, c .before .before .before .before .before .before .if1 .left, ← c .before .before .before .before .before .before .before .byte-at .ensures, ← c .before .before .before .before .before .before .before .before .word-at .ensures)
+returns-3 c = rw (← c .before .before .before .before .before .before .before .before .word-at .ensures, ← c .before .before .before .before .before .before .before .byte-at .ensures, c .before .before .before .before .before .before .if1 .left, ← c .before .before .before .before .byte-at2 .ensures, c .before .if2 .left, c .value2 .ensures)
 
 pub numeral-spec : {M : Type 1} → statement M
 numeral-spec =

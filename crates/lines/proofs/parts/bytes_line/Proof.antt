@@ -22,7 +22,7 @@ bad-requires c κs = search needs
 
 returns : tie.Need-returns Inv-loop μ-loop
 unfolding bytesLine
-returns c = simp (c .bad .ensures, le-leb _ _ (c .before .if1 .taken), ← c .before .before .before .word-at .ensures)
+returns c = rw (← c .before .before .before .word-at .ensures, le-leb _ _ (c .before .if1 .taken), c .bad .ensures)
 
 loop-holds : tie.Need-loop-holds Inv-loop μ-loop
 loop-holds c = refl

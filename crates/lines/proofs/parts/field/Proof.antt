@@ -14,7 +14,7 @@ cast-t13 c = search needs
 
 returns : tie.Need-returns
 unfolding field
-returns c = simp (c .before .if1 .taken, ← c .before .before .before .before .place .ensures, ← c .before .before .before .before .before .named .ensures)
+returns c = rw (← c .before .before .before .before .before .named .ensures, ← c .before .before .before .before .place .ensures, c .before .if1 .taken)
 
 number-requires : tie.Need-number-requires
 number-requires c κs = search needs
@@ -27,14 +27,14 @@ with-bits-requires c κs = search needs
 
 returns-2 : tie.Need-returns-2
 unfolding field
-returns-2 c = simp (c .with-bits .ensures, c .before .if2 .taken, ← c .before .before .before .before .numeral .ensures, ← c .before .before .before .before .before .number .ensures, c .before .before .before .before .before .before .if1 .left, ← c .before .before .before .before .before .before .before .before .before .place .ensures, ← c .before .before .before .before .before .before .before .before .before .before .named .ensures)
+returns-2 c = rw (← c .before .before .before .before .before .before .before .before .before .before .named .ensures, ← c .before .before .before .before .before .before .before .before .before .place .ensures, c .before .before .before .before .before .before .if1 .left, ← c .before .before .before .before .before .number .ensures, ← c .before .before .before .before .numeral .ensures, c .before .if2 .taken, c .with-bits .ensures)
 
 with-bits-requires-2 : tie.Need-with-bits-requires-2
 with-bits-requires-2 c κs = search needs
 
 returns-3 : tie.Need-returns-3
 unfolding field
-returns-3 c = simp (c .with-bits2 .ensures, c .before .if2 .left, ← c .before .before .before .before .numeral .ensures, ← c .before .before .before .before .before .number .ensures, c .before .before .before .before .before .before .if1 .left, ← c .before .before .before .before .before .before .before .before .before .place .ensures, ← c .before .before .before .before .before .before .before .before .before .before .named .ensures)
+returns-3 c = rw (← c .before .before .before .before .before .before .before .before .before .before .named .ensures, ← c .before .before .before .before .before .before .before .before .before .place .ensures, c .before .before .before .before .before .before .if1 .left, ← c .before .before .before .before .before .number .ensures, ← c .before .before .before .before .numeral .ensures, c .before .if2 .left, c .with-bits2 .ensures)
 
 pub field-spec : {M : Type 1} → statement M
 field-spec =

@@ -36,13 +36,13 @@ returns : tie.Need-returns
 unfolding withValues
 returns c =
     let a = c .before .before .args in
-    rw (← values-shifted (a .p) (a .whole) (a .at) (a .from) (a .to) (a .n) (a .first) (a .size)) (simp (ne-eqb _ _ (c .if1 .taken)))
+    rw (← values-shifted (a .p) (a .whole) (a .at) (a .from) (a .to) (a .n) (a .first) (a .size), ne-eqb _ _ (c .if1 .taken))
 
 returns-2 : tie.Need-returns-2
 unfolding withValues
 returns-2 c =
     let a = c .before .before .before .args in
-    rw (← values-shifted (a .p) (a .whole) (a .at) (a .from) (a .to) (a .n) (a .first) (a .size)) (simp (lt-ltb _ _ (c .if2 .taken), eq-eqb _ _ (c .before .if1 .left)))
+    rw (← values-shifted (a .p) (a .whole) (a .at) (a .from) (a .to) (a .n) (a .first) (a .size), eq-eqb _ _ (c .before .if1 .left), lt-ltb _ _ (c .if2 .taken))
 
 div-value : tie.Need-div-value
 div-value c = shift-pos (c .before .before .before .args .first)
@@ -54,7 +54,7 @@ returns-3 : tie.Need-returns-3
 unfolding withValues
 returns-3 c =
     let a = c .before .before .before .before .args in
-    rw (← values-shifted (a .p) (a .whole) (a .at) (a .from) (a .to) (a .n) (a .first) (a .size)) (simp (c .if3 .taken, le-ltb _ _ (c .before .if2 .left), eq-eqb _ _ (c .before .before .if1 .left)))
+    rw (← values-shifted (a .p) (a .whole) (a .at) (a .from) (a .to) (a .n) (a .first) (a .size), eq-eqb _ _ (c .before .before .if1 .left), le-ltb _ _ (c .before .if2 .left), c .if3 .taken)
 
 mul-t15 : tie.Need-mul-t15
 mul-t15 c =
@@ -80,7 +80,7 @@ returns-4 : tie.Need-returns-4
 unfolding withValues
 returns-4 c =
     let a = c .before .before .before .before .before .before .args in
-    rw (← values-shifted (a .p) (a .whole) (a .at) (a .from) (a .to) (a .n) (a .first) (a .size)) (simp (c .before .before .if3 .left, le-ltb _ _ (c .before .before .before .if2 .left), eq-eqb _ _ (c .before .before .before .before .if1 .left)))
+    rw (← values-shifted (a .p) (a .whole) (a .at) (a .from) (a .to) (a .n) (a .first) (a .size), eq-eqb _ _ (c .before .before .before .before .if1 .left), le-ltb _ _ (c .before .before .before .if2 .left), c .before .before .if3 .left)
 
 pub with-bits-spec : {M : Type 1} → statement M
 with-bits-spec =

@@ -12,7 +12,7 @@ bad-requires c κs = search needs
 
 returns : tie.Need-returns
 unfolding writeLine
-returns c = simp (c .bad .ensures, lt-ltb _ _ (c .before .if1 .taken), ← c .before .before .before .by-name .ensures)
+returns c = rw (← c .before .before .before .by-name .ensures, lt-ltb _ _ (c .before .if1 .taken), c .bad .ensures)
 
 numeral-requires : tie.Need-numeral-requires
 numeral-requires c κs = search needs
@@ -22,14 +22,14 @@ bad-requires-2 c κs = search needs
 
 returns-2 : tie.Need-returns-2
 unfolding writeLine
-returns-2 c = simp (c .bad2 .ensures, le-leb _ _ (c .before .if2 .taken), ← c .before .before .before .numeral .ensures, le-ltb _ _ (c .before .before .before .before .if1 .left), ← c .before .before .before .before .before .before .by-name .ensures)
+returns-2 c = rw (← c .before .before .before .before .before .before .by-name .ensures, le-ltb _ _ (c .before .before .before .before .if1 .left), ← c .before .before .before .numeral .ensures, le-leb _ _ (c .before .if2 .taken), c .bad2 .ensures)
 
 written-requires : tie.Need-written-requires
 written-requires c κs = search needs
 
 returns-3 : tie.Need-returns-3
 unfolding writeLine
-returns-3 c = simp (c .written .ensures, lt-ltb _ _ (c .before .if3 .taken), lt-leb _ _ (c .before .before .before .if2 .left), ← c .before .before .before .before .before .numeral .ensures, le-ltb _ _ (c .before .before .before .before .before .before .if1 .left), ← c .before .before .before .before .before .before .before .before .by-name .ensures)
+returns-3 c = rw (← c .before .before .before .before .before .before .before .before .by-name .ensures, le-ltb _ _ (c .before .before .before .before .before .before .if1 .left), ← c .before .before .before .before .before .numeral .ensures, lt-leb _ _ (c .before .before .before .if2 .left), lt-ltb _ _ (c .before .if3 .taken), c .written .ensures)
 
 bad-requires-3 : tie.Need-bad-requires-3
 bad-requires-3 c κs = search needs
@@ -43,7 +43,7 @@ written-requires-2 c κs = search needs
 
 returns-5 : tie.Need-returns-5
 unfolding writeLine
-returns-5 c = simp (c .written2 .ensures, c .before .if4 .left, le-ltb _ _ (c .before .before .if3 .left), lt-leb _ _ (c .before .before .before .before .if2 .left), ← c .before .before .before .before .before .before .numeral .ensures, le-ltb _ _ (c .before .before .before .before .before .before .before .if1 .left), ← c .before .before .before .before .before .before .before .before .before .by-name .ensures)
+returns-5 c = rw (← c .before .before .before .before .before .before .before .before .before .by-name .ensures, le-ltb _ _ (c .before .before .before .before .before .before .before .if1 .left), ← c .before .before .before .before .before .before .numeral .ensures, lt-leb _ _ (c .before .before .before .before .if2 .left), le-ltb _ _ (c .before .before .if3 .left), c .before .if4 .left, c .written2 .ensures)
 
 pub write-line-spec : {M : Type 1} → statement M
 write-line-spec =

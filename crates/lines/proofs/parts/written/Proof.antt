@@ -18,18 +18,18 @@ bad-requires c κs = search needs
 
 returns : tie.Need-returns
 unfolding written
-returns c = simp (c .bad .ensures, ne-eqb _ _ (c .before .if1 .taken), ← c .before .before .before .before .all-words .ensures, ← c .before .before .before .before .before .register-at .ensures)
+returns c = rw (← c .before .before .before .before .before .register-at .ensures, ← c .before .before .before .before .all-words .ensures, ne-eqb _ _ (c .before .if1 .taken), c .bad .ensures)
 
 cast-t12 : tie.Need-cast-t12
 cast-t12 c = search needs
 
 returns-2 : tie.Need-returns-2
 unfolding written
-returns-2 c = simp (lt-ltb _ _ (c .if2 .taken), eq-eqb _ _ (c .before .if1 .left), ← c .before .before .before .before .all-words .ensures, ← c .before .before .before .before .before .register-at .ensures)
+returns-2 c = rw (← c .before .before .before .before .before .register-at .ensures, ← c .before .before .before .before .all-words .ensures, eq-eqb _ _ (c .before .if1 .left), lt-ltb _ _ (c .if2 .taken))
 
 returns-3 : tie.Need-returns-3
 unfolding written
-returns-3 c = simp (le-ltb _ _ (c .if2 .left), eq-eqb _ _ (c .before .if1 .left), ← c .before .before .before .before .all-words .ensures, ← c .before .before .before .before .before .register-at .ensures)
+returns-3 c = rw (← c .before .before .before .before .before .register-at .ensures, ← c .before .before .before .before .all-words .ensures, eq-eqb _ _ (c .before .if1 .left), le-ltb _ _ (c .if2 .left))
 
 pub written-spec : {M : Type 1} → statement M
 written-spec =
