@@ -1,5 +1,5 @@
 -- What a line of a lesson means: docs/LESSONS.md. A line comes without its line end.
-use mathlib.Core.Bool.{Bool, _||_, not}
+use mathlib.Core.Bool.{Bool, _&&_, _||_, not}
 use mathlib.Core.List.{List}
 use Prim.Native.Nat.{ℕ, zero, suc, _-_, _%_, _^_}
 use lib.Dec.{eqb, ltb, leb}
@@ -10,7 +10,7 @@ use Rattle.names.specs.Scan.{runEnd, wordAt}
 use Rattle.names.specs.declared.scan.Word.{Word}
 use Rattle.names.specs.declared.scan.Class.the-variants.{HexDigit}
 use Rattle.names.specs.declared.Group.the-variants.{Registers, Steps, Results}
-use Rattle.lines.specs.Numbers.{noNumber, isEmpty, numeral, byName}
+use Rattle.lines.specs.Numbers.{isEmpty, numeral, byName}
 use Rattle.lines.specs.Parts.{fieldsOf, allWords}
 use Rattle.lines.specs.Meanings.{bad, badPart, alone, last}
 use Rattle.lines.specs.Frames.{frameLine}
@@ -51,22 +51,20 @@ numberLine s n p =
 
 -- ---- what a register is written
 
--- the number in front of the fields, or what they make
-abbrev pub writtenOf : ℕ → ℕ → Part → Meaning
-writtenOf o whole q = pick (eqb (q .rule) 0) (Step (Write o (pick (ltb whole noNumber) whole (q .word % 2 ^ 32)))) (badPart q)
-
-unfoldable pub written : List ℕ → ℕ → ℕ → ℕ → Meaning
-written s o p whole = writtenOf o whole (allWords s (fieldsOf o whole) p)
+-- the number in front of the fields, or else what they make
+abbrev pub writtenOf : ℕ → Term → Part → Meaning
+writtenOf o v q =
+    pick (eqb (q .rule) 0) (pick (v .numeric) (Step (Write o (v .word))) (Step (Write o (q .word % 2 ^ 32)))) (badPart q)
 
 -- a number first, or fields alone; nothing: rule 5
-abbrev pub valueOf : List ℕ → ℕ → ℕ → Term → Meaning
-valueOf s o p v =
+abbrev pub valueOf : List ℕ → ℕ → Term → Meaning
+valueOf s o v =
     pick (isEmpty v) (bad (v .from) 5 o)
-    (pick (ltb (v .number) noNumber) (written s o (v .to) (v .number))
-    (pick (v .numeric) (bad (v .from) 3 4294967295) (written s o p noNumber)))
+    (pick (v .numeric && ltb 4294967295 (v .number)) (bad (v .from) 3 4294967295)
+    (writtenOf o v (allWords s (fieldsOf o (v .number)) (v .rest))))
 
 abbrev pub writeOf : List ℕ → Term → Meaning
-writeOf s t = pick (ltb 65535 (t .number)) (bad (t .from) 4 0) (valueOf s (t .word) (t .to) (numeral s (t .to)))
+writeOf s t = pick (ltb 65535 (t .number)) (bad (t .from) 4 0) (valueOf s (t .word) (numeral s (t .to)))
 
 unfoldable pub writeLine : List ℕ → ℕ → Meaning
 writeLine s p = writeOf s (byName s p Registers)

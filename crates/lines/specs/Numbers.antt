@@ -15,9 +15,9 @@ use Rattle.lines.specs.declared.numbers.Term.{Term}
 abbrev pub noNumber : ℕ
 noNumber = 2 ^ 32
 
--- a word, whether it is written as a number, the number, and the number of a name
-abbrev pub term : Word → Bool → ℕ → ℕ → Term
-term w numeric n name = record { from = w .from; to = w .to; numeric = numeric; number = n; word = n % 2 ^ 32; name = name }
+-- a word, with the place where the line goes on, whether it is written as a number, and the number
+abbrev pub term : Word → ℕ → Bool → ℕ → Term
+term w p numeric n = record { from = w .from; to = w .to; rest = p; numeric = numeric; number = n; word = n % 2 ^ 32; name = noNumber }
 
 -- nothing stands there
 abbrev pub isEmpty : Term → Bool
@@ -36,13 +36,14 @@ isOther c = ltb c 48 || ltb 57 c
 
 -- a number begins with a decimal digit, and no name does
 unfoldable pub numeralOf : List ℕ → Word → Term
-numeralOf s w = pick (isOther (byteAt s (w .from))) (term w false noNumber noNumber) (term w true (digitsOf s w) noNumber)
+numeralOf s w =
+    pick (isOther (byteAt s (w .from))) (term w (w .from) false noNumber) (term w (w .to) true (digitsOf s w))
 
 unfoldable pub numeral : List ℕ → ℕ → Term
 numeral s p = numeralOf s (wordAt s p)
 
 abbrev pub called : Term → ℕ → Term
-called t n = record { from = t .from; to = t .to; numeric = false; number = n; word = n % 2 ^ 32; name = n }
+called t n = record { from = t .from; to = t .to; rest = t .from; numeric = false; number = n; word = n % 2 ^ 32; name = n }
 
 abbrev pub foundOf : Term → Found → Term
 foundOf t f = pick (eqb (f .row) none) t (called t (place f))

@@ -183,22 +183,21 @@ pub fn meaning_of(s: &[u8]) -> Meaning
     ensures { λ r. ⌜ r ≡ lines.meaningOf (now (s .entry)) ⌝ }
 {
     let t = by_name(s, 0, Group::Steps);
-    let to = t.to;
-    if to <= t.from {
+    if t.to <= t.from {
         return Meaning::Nothing;
     }
     let step = t.name;
     match step {
-        1 => alone(s, to, Meaning::Step(WideStep::Reset)),
-        3 => parts::write_line(s, to),
-        4 => alone(s, to, Meaning::Step(WideStep::Idle)),
-        6 => alone(s, to, Meaning::Step(WideStep::Activity)),
-        7 => alone(s, to, Meaning::Step(WideStep::Start)),
-        9 => frames::frame_line(s, to),
-        11 => expectations::expect_line(s, to),
-        13 => alone(s, to, Meaning::Done),
-        14 => parts::bytes_line(s, to),
-        2 | 5 | 8 | 10 | 12 => number_line(s, step, to),
+        1 => alone(s, t.to, Meaning::Step(WideStep::Reset)),
+        3 => parts::write_line(s, t.to),
+        4 => alone(s, t.to, Meaning::Step(WideStep::Idle)),
+        6 => alone(s, t.to, Meaning::Step(WideStep::Activity)),
+        7 => alone(s, t.to, Meaning::Step(WideStep::Start)),
+        9 => frames::frame_line(s, t.to),
+        11 => expectations::expect_line(s, t.to),
+        13 => alone(s, t.to, Meaning::Done),
+        14 => parts::bytes_line(s, t.to),
+        2 | 5 | 8 | 10 | 12 => number_line(s, step, t.to),
         _ => bad(t.from, WANTS_STEP, 0),
     }
 }

@@ -9,11 +9,12 @@ use names::scan::word_at;
 
 pub(crate) const NO_NUMBER: u64 = 4294967296;
 
-// A word of a line: where it stands, whether it begins with a decimal digit, the number that it stands for, this number as a word, and
-// the number where it stands for it as a name.
+// A word of a line: where it stands, where the line goes on behind a number, whether it begins with a decimal digit, the number that it
+// stands for, this number as a word, and the number where it stands for it as a name.
 pub(crate) struct Term {
     pub(crate) from: usize,
     pub(crate) to: usize,
+    pub(crate) rest: usize,
     pub(crate) numeric: bool,
     pub(crate) number: u64,
     pub(crate) word: u32,
@@ -30,6 +31,7 @@ pub(crate) fn numeral(s: &[u8], place: usize) -> Term
         return Term {
             from: w.from,
             to: w.to,
+            rest: w.from,
             numeric: false,
             number: NO_NUMBER,
             word: 0,
@@ -43,6 +45,7 @@ pub(crate) fn numeral(s: &[u8], place: usize) -> Term
         return Term {
             from: w.from,
             to: w.to,
+            rest: w.to,
             numeric: true,
             number: n,
             word: (n % 4294967296) as u32,
@@ -53,6 +56,7 @@ pub(crate) fn numeral(s: &[u8], place: usize) -> Term
     Term {
         from: w.from,
         to: w.to,
+        rest: w.to,
         numeric: true,
         number: n,
         word: (n % 4294967296) as u32,
@@ -76,6 +80,7 @@ pub(crate) fn by_name(s: &[u8], place: usize, g: Group) -> Term
     Term {
         from: t.from,
         to: t.to,
+        rest: t.from,
         numeric: false,
         number: n,
         word: (n % 4294967296) as u32,

@@ -144,30 +144,6 @@ pub(crate) fn all_words(s: &[u8], k: Kind, place: usize) -> Part
 
 // ---- lines
 
-// A write to the register at an offset: fields from a place on, behind a number or with none.
-fn written(s: &[u8], offset: u32, place: usize, whole: u64) -> Meaning
-    ensures { λ r. ⌜ r ≡ lines.written (now (s .entry)) offset place whole ⌝ }
-{
-    let g = names::register_at(offset);
-    let k = Kind {
-        group: Group::Fields(g.row),
-        last: 31,
-        rule: WANTS_FIELD,
-        number: offset,
-        alone: false,
-        whole: whole,
-    };
-    let p = all_words(s, k, place);
-    let n = (p.word % 4294967296) as u32;
-    if p.rule != 0 {
-        return bad(p.place, p.rule, n);
-    }
-    if whole < NO_NUMBER {
-        return Meaning::Step(WideStep::Write(offset, whole as u32));
-    }
-    Meaning::Step(WideStep::Write(offset, n))
-}
-
 pub(crate) fn write_line(s: &[u8], place: usize) -> Meaning
     ensures { λ r. ⌜ r ≡ lines.writeLine (now (s .entry)) place ⌝ }
 {
@@ -179,13 +155,27 @@ pub(crate) fn write_line(s: &[u8], place: usize) -> Meaning
     if v.to <= v.from {
         return bad(v.from, WANTS_VALUE, r.word);
     }
-    if v.number < NO_NUMBER {
-        return written(s, r.word, v.to, v.number);
-    }
-    if v.numeric {
+    if v.numeric & (4294967295 < v.number) {
         return bad(v.from, WANTS_NUMBER, 4294967295);
     }
-    written(s, r.word, r.to, NO_NUMBER)
+    let g = names::register_at(r.word);
+    let k = Kind {
+        group: Group::Fields(g.row),
+        last: 31,
+        rule: WANTS_FIELD,
+        number: r.word,
+        alone: false,
+        whole: v.number,
+    };
+    let p = all_words(s, k, v.rest);
+    let n = (p.word % 4294967296) as u32;
+    if p.rule != 0 {
+        return bad(p.place, p.rule, n);
+    }
+    if v.numeric {
+        return Meaning::Step(WideStep::Write(r.word, v.word));
+    }
+    Meaning::Step(WideStep::Write(r.word, n))
 }
 
 pub(crate) fn bytes_line(s: &[u8], place: usize) -> Meaning
