@@ -10,7 +10,7 @@ use Rattle.lesson_promises.specs.Reading.{Lines}
 use Rattle.lesson_promises.proofs.ToldNames.{lookups}
 
 pub lines-read : Lines
-unfolding lookups numbers.isNumber numbers.digitsOf numbers.number numbers.name numbers.byName frames.pair frames.word frames.coded frames.finished frames.withData frames.remote frames.behindHash frames.identifier frames.frameOf frames.frame parts.isGiven parts.wordWith parts.withBits parts.numberBehind parts.withField parts.field parts.line parts.pairs parts.wordOf parts.oneMore parts.wordsOn parts.allWords parts.numberFirst parts.valueBegun parts.value meanings.alone expectations.linesNamed expectations.linesBehind expectations.refused expectations.wordExpected expectations.expectLine lines.readLine lines.written lines.writeLine lines.bitsLine lines.endLine lines.secondNumber lines.errorLine lines.frameLine lines.repeatLine lines.bytesLine lines.lineOf lines.meaningOf
+unfolding lookups numbers.numeralOf numbers.numeral numbers.byName parts.withValues parts.withBits parts.field parts.wordsOn parts.allWords meanings.alone meanings.last frames.pairs frames.finished frames.behindIdentifier frames.frameLine expectations.withLines expectations.linesBehind expectations.expectLine lines.numberLine lines.writeLine lines.bytesOn lines.bytesLine lines.lineOf lines.meaningOf
 lines-read = record {
   empty = refl;
   comment = refl;

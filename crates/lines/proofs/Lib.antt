@@ -1,2 +1,4 @@
+pub mod Identifiers
+pub mod Places
 pub mod Powers
 pub mod Words

@@ -1,59 +1,61 @@
 -- What a step must answer: docs/LESSONS.md, "What is expected".
-use mathlib.Core.Bool.{true, false, _||_}
+use mathlib.Core.Bool.{Bool, true, false, _||_, _&&_, not}
 use mathlib.Core.List.{List}
 use Prim.Native.Nat.{ℕ, _%_}
 use lib.Dec.{eqb, ltb}
 use Rattle.model.specs.Base.{pick}
-use Rattle.names.specs.Scan.{wordAt}
 use Rattle.names.specs.declared.Group.the-variants.{Lines, Expectations}
-use Rattle.lines.specs.Numbers.{isNumber, number, name}
-use Rattle.lines.specs.Parts.{isEmpty, begun, allWords}
-use Rattle.lines.specs.Meanings.{bad, badPart, alone}
-use Rattle.lines.specs.declared.parts.Kind.the-variants as kinds
+use Rattle.lines.specs.Numbers.{isEmpty, numeral, byName}
+use Rattle.lines.specs.Parts.{lineNames, allWords}
+use Rattle.lines.specs.Meanings.{bad, alone}
+use Rattle.lines.specs.declared.numbers.Term.{Term}
 use Rattle.lines.specs.declared.parts.Part.{Part}
 use Rattle.lines.specs.declared.Expected.{Expected}
 use Rattle.lines.specs.declared.Meaning.{Meaning}
 use Rattle.lines.specs.declared.Meaning.the-variants.{Expect}
 
-abbrev pub answer : ℕ → ℕ → Expected
-answer code word = record { answered = true; code = code; word = word; lined = false; lines = 0 }
-
-abbrev pub unanswered : Expected
-unanswered = record { answered = false; code = 0; word = 0; lined = false; lines = 0 }
-
-abbrev pub withLines : Expected → ℕ → Meaning
-withLines x l = Expect (record { answered = x .answered; code = x .code; word = x .word; lined = true; lines = l })
+abbrev pub expected : Bool → ℕ → ℕ → Bool → ℕ → Expected
+expected answered code word lined lines =
+    record { answered = answered; code = code; word = word; lined = lined; lines = lines }
 
 abbrev pub linesOf : Expected → Part → Meaning
-linesOf x q = pick (eqb (q .rule) 0) (withLines x (q .word % 256)) (badPart q)
+linesOf x q =
+    pick (eqb (q .rule) 0) (Expect (expected (x .answered) (x .code) (x .word) (x .lined) (q .word % 256))) (bad (q .place) (q .rule) 0)
 
--- behind the word `lines`: none alone, or some lines; rule 17
-unfoldable pub linesNamed : List ℕ → ℕ → Expected → Meaning
-linesNamed s p x =
-    pick (eqb (name s (wordAt s p) Lines) 4) (alone s (wordAt s p .to) (withLines x 0))
-    (pick (ltb 4 (name s (wordAt s p) Lines)) (bad (wordAt s p .from) 17 0)
-    (linesOf x (allWords s kinds.Lines (begun p 0 false))))
+-- none alone, or some lines; rule 17
+abbrev pub linesFrom : List ℕ → ℕ → Expected → Term → Meaning
+linesFrom s p x t =
+    pick (eqb (t .name) 4) (alone s (t .to) (Expect x))
+    (pick (isEmpty t) (bad (t .from) 17 0) (linesOf x (allWords s lineNames p)))
 
--- behind a word or a code: nothing, or lines; rule 19
-unfoldable pub linesBehind : List ℕ → ℕ → Expected → Meaning
-linesBehind s p x =
-    pick (isEmpty (wordAt s p)) (Expect x)
-    (pick (eqb (name s (wordAt s p) Expectations) 2) (linesNamed s (wordAt s p .to) x) (bad (wordAt s p .from) 19 0))
+-- behind the word `lines`
+unfoldable pub withLines : List ℕ → ℕ → Expected → Meaning
+withLines s p x = linesFrom s p x (byName s p Lines)
+
+abbrev pub linesAt : List ℕ → Bool → ℕ → ℕ → ℕ → Term → Meaning
+linesAt s b code word rule t =
+    pick (b && isEmpty t) (Expect (expected b code word false 0))
+    (pick (eqb (t .name) 2) (withLines s (t .to) (expected b code word true 0)) (bad (t .from) rule 0))
+
+-- behind an answer nothing, or lines; where none is given, lines
+unfoldable pub linesBehind : List ℕ → ℕ → Bool → ℕ → ℕ → ℕ → Meaning
+linesBehind s p b code word rule = linesAt s b code word rule (byName s p Expectations)
 
 -- a code from 1 to 255, rule 18; a refusal has the word 0
-unfoldable pub refused : List ℕ → ℕ → Meaning
-refused s p =
-    pick (eqb (number s (wordAt s p)) 0 || ltb 255 (number s (wordAt s p))) (bad (wordAt s p .from) 18 0)
-    (linesBehind s (wordAt s p .to) (answer (number s (wordAt s p)) 0))
+abbrev pub refused : List ℕ → Term → Meaning
+refused s v =
+    pick (eqb (v .number) 0 || ltb 255 (v .number)) (bad (v .from) 18 0) (linesBehind s (v .to) true (v .number) 0 19)
 
 -- a word comes with the code 0
-unfoldable pub wordExpected : List ℕ → ℕ → ℕ → ℕ → Meaning
-wordExpected s n p q = pick (ltb 4294967295 n) (bad p 3 4294967295) (linesBehind s q (answer 0 n))
+abbrev pub wordExpected : List ℕ → Term → Meaning
+wordExpected s t =
+    pick (ltb 4294967295 (t .number)) (bad (t .from) 3 4294967295) (linesBehind s (t .to) true 0 (t .word) 19)
 
--- rule 16
+-- behind an answer anything but lines: rule 19; neither an answer nor lines: rule 16
+abbrev pub expectAt : List ℕ → ℕ → Term → Meaning
+expectAt s p t =
+    pick (eqb (t .name) 1) (refused s (numeral s (t .to)))
+    (pick (t .numeric) (wordExpected s t) (linesBehind s p false 0 0 16))
+
 unfoldable pub expectLine : List ℕ → ℕ → Meaning
-expectLine s p =
-    pick (isNumber s (wordAt s p)) (wordExpected s (number s (wordAt s p)) (wordAt s p .from) (wordAt s p .to))
-    (pick (eqb (name s (wordAt s p) Expectations) 1) (refused s (wordAt s p .to))
-    (pick (eqb (name s (wordAt s p) Expectations) 2) (linesNamed s (wordAt s p .to) unanswered)
-    (bad (wordAt s p .from) 16 0)))
+expectLine s p = expectAt s p (byName s p Expectations)

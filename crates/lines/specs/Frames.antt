@@ -1,86 +1,87 @@
 -- A frame as can-utils writes it: docs/LESSONS.md, "Steps", FRAME. The identifier word is that of a receive mailbox: 01, "Frames".
 use mathlib.Core.Bool.{true, _&&_, _||_, not}
 use mathlib.Core.List.{List}
-use Prim.Native.Nat.{ℕ, _-_, _+_, _*_, _/_, _%_, _^_}
+use Prim.Native.Nat.{ℕ, zero, suc, _-_, _+_, _*_, _/_, _%_, _^_}
 use lib.Dec.{eqb, ltb, leb}
 use Rattle.model.specs.Base.{pick}
 use Rattle.model.specs.declared.WideFrame.{WideFrame}
-use Rattle.names.specs.Scan.{byteAt, behind, digitOf, runEnd, value}
+use Rattle.model.specs.declared.WideStep.the-variants.{Receive}
+use Rattle.names.specs.Scan.{byteAt, runEnd, wordAt, value}
 use Rattle.names.specs.declared.scan.Word.{Word}
 use Rattle.names.specs.declared.scan.Class.the-variants.{HexDigit}
-use Rattle.lines.specs.declared.frames.Spelled.{Spelled}
+use Rattle.lines.specs.Meanings.{bad, alone}
+use Rattle.lines.specs.declared.Meaning.{Meaning}
+use Rattle.lines.specs.declared.Meaning.the-variants.{Step}
 
 abbrev pub framed : ℕ → ℕ → ℕ → ℕ → WideFrame
 framed identifier low high length = record { identifier = identifier; low = low; high = high; length = length }
 
-abbrev pub spelled : WideFrame → ℕ → Spelled
-spelled f p = record { frame = f; place = p; rule = 0 }
+abbrev pub received : List ℕ → ℕ → WideFrame → Meaning
+received s j f = alone s j (Step (Receive f))
 
-abbrev pub broken : ℕ → ℕ → Spelled
-broken p rule = record { frame = framed 0 0 0 0; place = p; rule = rule }
+-- the value of the hex digit at a place; any other byte has 2^32
+abbrev pub digitAt : List ℕ → ℕ → ℕ
+digitAt s p = value s p (p + 1) true
 
 -- ---- the data
 
--- byte k of n pairs of digits from place p on; the remainders never act: the digits are hex digits
-unfoldable pub pair : List ℕ → ℕ → ℕ → ℕ → ℕ
-pair s p n k =
-    pick (leb n k) 0 (digitOf (byteAt s (behind p (2 * k))) % 16 * 16 + digitOf (byteAt s (behind (behind p (2 * k)) 1)) % 16)
-
--- four of them, the first one lowest
-unfoldable pub word : List ℕ → ℕ → ℕ → ℕ → ℕ
-word s p n k = pair s p n k + pair s p n (k + 1) * 256 + pair s p n (k + 2) * 65536 + pair s p n (k + 3) * 16777216
+-- n pairs of digits up to place q as one number, the first pair lowest; the remainders never act: there are eight pairs at the most,
+-- and the digits are hex digits
+unfoldable pub pairs : List ℕ → ℕ → ℕ → ℕ
+pairs s q zero = 0
+pairs s q (suc n) = pairs s q n % 2 ^ 56 * 256 + value s (q - 2 * suc n) (q - 2 * suc n + 2) true % 256
 
 -- ---- the end of the word, at place j
 
 -- behind '_' a digit from 9 to F, and the word ends; rule 14
-unfoldable pub coded : List ℕ → ℕ → ℕ → WideFrame → Spelled
+abbrev pub coded : List ℕ → ℕ → ℕ → WideFrame → Meaning
 coded s j p f =
-    pick (ltb (digitOf (byteAt s p)) 9 || ltb 15 (digitOf (byteAt s p))) (broken p 14)
-    (pick (ltb (behind p 1) j) (broken (behind p 1) 14)
-    (spelled (framed (f .identifier) (f .low) (f .high) (digitOf (byteAt s p))) (behind p 1)))
+    pick (ltb (digitAt s p) 9 || ltb 15 (digitAt s p)) (bad p 14 0)
+    (pick (ltb (p + 1) j) (bad (p + 1) 14 0)
+    (received s j (framed (f .identifier) (f .low) (f .high) (digitAt s p))))
 
 -- behind eight bytes, or R8, a code may follow; rule 13
-unfoldable pub finished : List ℕ → ℕ → ℕ → WideFrame → Spelled
+unfoldable pub finished : List ℕ → ℕ → ℕ → WideFrame → Meaning
 finished s j p f =
-    pick (leb j p) (spelled f p)
-    (pick (not (eqb (f .length) 8) || not (eqb (byteAt s p) 95)) (broken p 13) (coded s j (behind p 1) f))
+    pick (leb j p) (received s j f)
+    (pick (not (eqb (f .length) 8) || not (eqb (byteAt s p) 95)) (bad p 13 0) (coded s j (p + 1) f))
 
 -- ---- behind the identifier
 
-abbrev pub dataOf : List ℕ → ℕ → ℕ → ℕ → ℕ → Spelled
-dataOf s j p identifier n = finished s j (runEnd s p HexDigit) (framed identifier (word s p n 0) (word s p n 4) n)
-
--- pairs of hex digits, eight at most
-unfoldable pub withData : List ℕ → ℕ → ℕ → ℕ → Spelled
-withData s j p identifier =
-    pick (not (eqb ((runEnd s p HexDigit - p) % 2) 0) || ltb 16 (runEnd s p HexDigit - p)) (broken p 13)
-    (dataOf s j p identifier ((runEnd s p HexDigit - p) / 2))
-
--- behind 'R': nothing or a digit from 0 to 8; a blank, which has the digit 16, is the length 0
-unfoldable pub remote : List ℕ → ℕ → ℕ → ℕ → Spelled
+-- behind 'R': nothing or a digit from 0 to 8; where the word ends, the length is 2^32 % 16, which is 0
+abbrev pub remote : List ℕ → ℕ → ℕ → ℕ → Meaning
 remote s j p identifier =
-    pick (ltb 8 (digitOf (byteAt s p)) && ltb p j) (broken p 13)
-    (finished s j (behind p 1) (framed identifier 0 0 (digitOf (byteAt s p) % 16)))
+    pick (ltb 8 (digitAt s p) && ltb p j) (bad p 13 0)
+    (finished s j (p + 1) (framed identifier 0 0 (digitAt s p % 16)))
+
+abbrev pub dataOf : List ℕ → ℕ → ℕ → ℕ → ℕ → Meaning
+dataOf s j q identifier n =
+    finished s j q (framed identifier (pairs s q n % 2 ^ 32) (pairs s q n / 2 ^ 32) n)
+
+-- pairs of hex digits up to place q, eight at most
+abbrev pub withData : List ℕ → ℕ → ℕ → ℕ → ℕ → Meaning
+withData s j p identifier q =
+    pick (not (eqb ((q - p) % 2) 0) || ltb 16 (q - p)) (bad p 13 0) (dataOf s j q identifier ((q - p) / 2))
 
 -- behind '#': another one is CAN FD, rule 12; 'R' is a remote frame, with the bit RTR
-unfoldable pub behindHash : List ℕ → ℕ → ℕ → ℕ → Spelled
+abbrev pub behindHash : List ℕ → ℕ → ℕ → ℕ → Meaning
 behindHash s j p identifier =
-    pick (eqb (byteAt s p) 35) (broken p 12)
-    (pick (eqb (byteAt s p) 82) (remote s j (behind p 1) ((identifier + 2) % 2 ^ 32))
-    (withData s j p identifier))
+    pick (eqb (byteAt s p) 35) (bad p 12 0)
+    (pick (eqb (byteAt s p) 82) (remote s j (p + 1) (identifier + 2))
+    (withData s j p identifier (runEnd s p HexDigit)))
 
--- three digits are a standard identifier, eight an extended one, with the bit IDE
-unfoldable pub identifier : ℕ → ℕ → ℕ
-identifier count n =
-    pick (eqb count 3 && leb n 0x7FF) (n * 2097152)
-    (pick (eqb count 8 && leb n 0x1FFFFFFF) (n * 8 + 4) (2 ^ 32))
+-- rule 11
+unfoldable pub behindIdentifier : List ℕ → ℕ → ℕ → ℕ → Meaning
+behindIdentifier s j p identifier = pick (eqb (byteAt s p) 35) (behindHash s j (p + 1) identifier) (bad p 11 0)
 
--- rules 10 and 11
-unfoldable pub frameOf : List ℕ → Word → ℕ → ℕ → Spelled
-frameOf s w p n =
-    pick (ltb 4294967295 n) (broken (w .from) 10)
-    (pick (eqb (byteAt s p) 35) (behindHash s (w .to) (behind p 1) n) (broken p 11))
+-- three digits are a standard identifier, eight an extended one, with the bit IDE; rule 10
+abbrev pub frameOf : List ℕ → Word → ℕ → ℕ → ℕ → Meaning
+frameOf s w q count n =
+    pick (eqb count 3 && leb n 0x7FF) (behindIdentifier s (w .to) q (n * 2097152))
+    (pick (eqb count 8 && leb n 0x1FFFFFFF) (behindIdentifier s (w .to) q (n * 8 + 4)) (bad (w .from) 10 0))
 
-unfoldable pub frame : List ℕ → Word → Spelled
-frame s w = frameOf s w (runEnd s (w .from) HexDigit)
-    (identifier (runEnd s (w .from) HexDigit - w .from) (value s (w .from) (runEnd s (w .from) HexDigit) true))
+abbrev pub frameAt : List ℕ → Word → ℕ → Meaning
+frameAt s w q = frameOf s w q (q - w .from) (value s (w .from) q true)
+
+unfoldable pub frameLine : List ℕ → ℕ → Meaning
+frameLine s p = frameAt s (wordAt s p) (runEnd s (wordAt s p .from) HexDigit)

@@ -1,6 +1,6 @@
 pub mod Numbers
-pub mod Frames
 pub mod Parts
 pub mod Meanings
+pub mod Frames
 pub mod Expectations
 pub mod Lines

@@ -1,13 +1,14 @@
 -- What a line can mean, and where it is no line of a lesson.
 use mathlib.Core.Bool.{Bool, _&&_, _||_, not}
 use mathlib.Core.List.{List, [], _∷_}
-use Prim.Native.Nat.{ℕ}
-use lib.Dec.{eqb}
+use Prim.Native.Nat.{ℕ, _%_, _^_}
+use lib.Dec.{eqb, ltb, leb}
 use Rattle.model.specs.Base.{pick, one}
 use Rattle.model.specs.Writer.{wideNumbers}
 use Rattle.model.specs.declared.Answer.{Answer}
 use Rattle.names.specs.Scan.{wordAt}
-use Rattle.lines.specs.Parts.{isEmpty}
+use Rattle.names.specs.declared.scan.Word.{Word}
+use Rattle.lines.specs.declared.numbers.Term.{Term}
 use Rattle.lines.specs.declared.parts.Part.{Part}
 use Rattle.lines.specs.declared.Expected.{Expected}
 use Rattle.lines.specs.declared.Meaning.{Meaning}
@@ -33,11 +34,18 @@ abbrev pub bad : ℕ → ℕ → ℕ → Meaning
 bad p rule n = Bad (record { place = p; rule = rule; number = n })
 
 abbrev pub badPart : Part → Meaning
-badPart q = bad (q .place) (q .rule) (q .number)
+badPart q = bad (q .place) (q .rule) (q .word % 2 ^ 32)
+
+abbrev pub ended : Word → Meaning → Meaning
+ended w m = pick (leb (w .to) (w .from)) m (bad (w .from) 2 0)
 
 -- a meaning that is whole: nothing follows; rule 2
 unfoldable pub alone : List ℕ → ℕ → Meaning → Meaning
-alone s p m = pick (isEmpty (wordAt s p)) m (bad (wordAt s p .from) 2 0)
+alone s p m = ended (wordAt s p) m
+
+-- a word that stands for a number up to a limit, or breaks a rule; nothing behind it
+unfoldable pub last : List ℕ → Term → ℕ → ℕ → ℕ → Meaning → Meaning
+last s t limit rule n m = pick (ltb limit (t .number)) (bad (t .from) rule n) (alone s (t .to) m)
 
 -- what is not given is not compared
 unfoldable pub holds : Expected → Answer → Bool

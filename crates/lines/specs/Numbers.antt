@@ -1,40 +1,53 @@
--- Numbers, and names that stand for numbers: docs/LESSONS.md, "Lines and words". 2^32 is no number.
-use mathlib.Core.Bool.{Bool, _&&_}
+-- Words as numbers, and names that stand for numbers: docs/LESSONS.md, "Lines and words". 2^32 is no number.
+use mathlib.Core.Bool.{Bool, true, false, _&&_, _||_}
 use mathlib.Core.List.{List}
-use Prim.Native.Nat.{ℕ, _^_}
-use lib.Dec.{eqb, ltb}
-use mathlib.Core.Bool.{true, false}
+use Prim.Native.Nat.{ℕ, _+_, _%_, _^_}
+use lib.Dec.{eqb, ltb, leb}
 use Rattle.model.specs.Base.{pick}
-use Rattle.names.specs.Scan.{byteAt, behind, digitOf, value}
+use Rattle.names.specs.Scan.{byteAt, wordAt, value}
 use Rattle.names.specs.Rows.{none}
 use Rattle.names.specs.Table.{named, place}
 use Rattle.names.specs.declared.scan.Word.{Word}
 use Rattle.names.specs.declared.rows.Found.{Found}
 use Rattle.names.specs.declared.Group.{Group}
+use Rattle.lines.specs.declared.numbers.Term.{Term}
 
 abbrev pub noNumber : ℕ
 noNumber = 2 ^ 32
 
--- a number begins with a decimal digit, and no name does
-unfoldable pub isNumber : List ℕ → Word → Bool
-isNumber s w = ltb (w .from) (w .to) && ltb (digitOf (byteAt s (w .from))) 10
+-- a word, with the place where the line goes on, whether it is written as a number, and the number
+abbrev pub term : Word → ℕ → Bool → ℕ → Term
+term w p numeric n = record { from = w .from; to = w .to; rest = p; numeric = numeric; number = n; word = n % 2 ^ 32; name = noNumber }
+
+-- nothing stands there
+abbrev pub isEmpty : Term → Bool
+isEmpty t = leb (t .to) (t .from)
 
 -- '0', 'x' and a digit or more
 abbrev pub isHex : List ℕ → Word → Bool
-isHex s w = eqb (byteAt s (behind (w .from) 1)) 120 && eqb (byteAt s (w .from)) 48 && ltb (behind (w .from) 2) (w .to)
+isHex s w = eqb (byteAt s (w .from)) 48 && eqb (byteAt s (w .from + 1)) 120 && ltb (w .from + 2) (w .to)
 
-unfoldable pub digitsOf : List ℕ → Word → ℕ
-digitsOf s w = pick (isHex s w) (value s (behind (w .from) 2) (w .to) true) (value s (w .from) (w .to) false)
+abbrev pub digitsOf : List ℕ → Word → ℕ
+digitsOf s w = pick (isHex s w) (value s (w .from + 2) (w .to) true) (value s (w .from) (w .to) false)
 
-unfoldable pub number : List ℕ → Word → ℕ
-number s w = pick (isNumber s w) (digitsOf s w) noNumber
+-- no decimal digit
+abbrev pub isOther : ℕ → Bool
+isOther c = ltb c 48 || ltb 57 c
 
-abbrev pub nameOf : Found → ℕ
-nameOf f = pick (eqb (f .row) none) noNumber (place f)
+-- a number begins with a decimal digit, and no name does
+unfoldable pub numeralOf : List ℕ → Word → Term
+numeralOf s w =
+    pick (isOther (byteAt s (w .from))) (term w (w .from) false noNumber) (term w (w .to) true (digitsOf s w))
 
--- what a name of a group stands for
-unfoldable pub name : List ℕ → Word → Group → ℕ
-name s w g = nameOf (named s w g)
+unfoldable pub numeral : List ℕ → ℕ → Term
+numeral s p = numeralOf s (wordAt s p)
 
-unfoldable pub byName : List ℕ → Word → Group → ℕ
-byName s w g = pick (isNumber s w) (number s w) (name s w g)
+abbrev pub called : Term → ℕ → Term
+called t n = record { from = t .from; to = t .to; rest = t .from; numeric = false; number = n; word = n % 2 ^ 32; name = n }
+
+abbrev pub foundOf : Term → Found → Term
+foundOf t f = pick (eqb (f .row) none) t (called t (place f))
+
+-- a number, or what a name of a group stands for
+unfoldable pub byName : List ℕ → ℕ → Group → Term
+byName s p g = pick (numeral s p .numeric) (numeral s p) (foundOf (numeral s p) (named s (wordAt s p) g))

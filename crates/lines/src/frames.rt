@@ -1,203 +1,123 @@
 // A frame as can-utils writes it: 123#1122, 12345678#11, 123#R5, 123#R8_B.
 ghost use mathlib.Core.Path.{_≡_};
-ghost use Prim.Native.Nat.{_≤_};
-ghost use Rattle.names.specs.Scan as scan;
+ghost use Prim.Native.Nat.{_*_, _≤_};
 ghost use Rattle.lines.specs.Frames as frames;
+use super::Meaning;
 use super::NO_FD;
 use super::WANTS_CODE;
 use super::WANTS_DATA;
 use super::WANTS_HASH;
 use super::WANTS_IDENTIFIER;
+use super::alone;
+use super::bad;
 use model::WideFrame;
+use model::WideStep;
 use names::scan::Class;
-use names::scan::Word;
 use names::scan::byte_at;
-use names::scan::digit_of;
 use names::scan::distance;
 use names::scan::run_end;
 use names::scan::value;
+use names::scan::word_at;
 
-const NO_IDENTIFIER: u64 = 4294967296;
-
-// A frame, or which rule is broken where; rule 0 is none.
-pub(crate) struct Spelled {
-    pub(crate) frame: WideFrame,
-    pub(crate) place: usize,
-    pub(crate) rule: u32,
-}
-
-fn next(i: usize) -> usize
-    ensures { λ r. ⌜ r ≡ scan.behind i 1 ⌝ }
+// Pairs of digits up to a place as a number, the first one lowest; there are eight at the most.
+fn pairs(s: &[u8], to: usize, count: usize) -> u64
+    requires { ⌜ 2 * count ≤ to ⌝ }
+    ensures { λ r. ⌜ r ≡ frames.pairs (now (s .entry)) to count ⌝ }
 {
-    std::num::wrapping_add_usize(i, 1)
-}
-
-fn broken(place: usize, rule: u32) -> Spelled
-    ensures { λ r. ⌜ r ≡ frames.broken place rule ⌝ }
-{
-    let nothing = WideFrame {
-        identifier: 0,
-        low: 0,
-        high: 0,
-        length: 0,
-    };
-    Spelled {
-        frame: nothing,
-        place: place,
-        rule: rule,
+    let mut n: u64 = 0;
+    let mut i = 0;
+    while i < count {
+        i += 1;
+        let at = to - 2 * i;
+        let byte = value(s, at, at + 2, true) % 256;
+        n = n % 72057594037927936 * 256 + byte;
     }
+    n
 }
-
-// ---- the data
-
-// Byte k of some pairs of digits from a place on; 0 where there are not so many.
-fn pair(s: &[u8], from: usize, count: usize, k: usize) -> u32
-    requires { ⌜ k ≤ 8 ⌝ }
-    ensures { λ r. ⌜ (r ≡ frames.pair (now (s .entry)) from count k) × (r ≤ 255) ⌝ }
-{
-    if count <= k {
-        return 0;
-    }
-    let i = std::num::wrapping_add_usize(from, 2 * k);
-    let high = (digit_of(byte_at(s, i)) % 16) as u32;
-    let low = (digit_of(byte_at(s, next(i))) % 16) as u32;
-    high * 16 + low
-}
-
-// Four of them as a word, the first one lowest.
-fn word(s: &[u8], from: usize, count: usize, k: usize) -> u32
-    requires { ⌜ k ≤ 4 ⌝ }
-    ensures { λ r. ⌜ r ≡ frames.word (now (s .entry)) from count k ⌝ }
-{
-    let a = pair(s, from, count, k);
-    let b = pair(s, from, count, k + 1);
-    let c = pair(s, from, count, k + 2);
-    let d = pair(s, from, count, k + 3);
-    a + b * 256 + c * 65536 + d * 16777216
-}
-
-// ---- the end of the word
 
 // Behind the data of a frame its word ends, or a length code above 8 follows.
-fn finished(s: &[u8], to: usize, place: usize, f: WideFrame) -> Spelled
+fn finished(s: &[u8], to: usize, place: usize, f: WideFrame) -> Meaning
     ensures { λ r. ⌜ r ≡ frames.finished (now (s .entry)) to place f ⌝ }
 {
     if to <= place {
-        return Spelled {
-            frame: f,
-            place: place,
-            rule: 0,
-        };
+        return alone(s, to, Meaning::Step(WideStep::Receive(f)));
     }
     if (f.length != 8) | (byte_at(s, place) != b'_') {
-        return broken(place, WANTS_DATA);
+        return bad(place, WANTS_DATA, 0);
     }
-    coded(s, to, next(place), f)
-}
-
-fn coded(s: &[u8], to: usize, place: usize, f: WideFrame) -> Spelled
-    ensures { λ r. ⌜ r ≡ frames.coded (now (s .entry)) to place f ⌝ }
-{
-    let code = digit_of(byte_at(s, place));
+    let at = place + 1;
+    let end = at + 1;
+    let code = value(s, at, end, true);
     if (code < 9) | (15 < code) {
-        return broken(place, WANTS_CODE);
+        return bad(at, WANTS_CODE, 0);
     }
-    let end = next(place);
     if end < to {
-        return broken(end, WANTS_CODE);
+        return bad(end, WANTS_CODE, 0);
     }
-    let longer = WideFrame {
-        identifier: f.identifier,
-        low: f.low,
-        high: f.high,
-        length: code as u32,
-    };
-    Spelled {
-        frame: longer,
-        place: end,
-        rule: 0,
-    }
+    let mut x = f;
+    x.length = code as u32;
+    alone(s, to, Meaning::Step(WideStep::Receive(x)))
 }
 
-// ---- behind the identifier
-
-fn with_data(s: &[u8], to: usize, place: usize, identifier: u32) -> Spelled
-    ensures { λ r. ⌜ r ≡ frames.withData (now (s .entry)) to place identifier ⌝ }
+// Behind the hash a second one, a remote frame or data.
+fn behind_identifier(s: &[u8], to: usize, hash: usize, identifier: u32) -> Meaning
+    requires { ⌜ identifier ≤ 0xFFFFFFFC ⌝ }
+    ensures { λ r. ⌜ r ≡ frames.behindIdentifier (now (s .entry)) to hash identifier ⌝ }
 {
+    if byte_at(s, hash) != b'#' {
+        return bad(hash, WANTS_HASH, 0);
+    }
+    let place = hash + 1;
+    let c = byte_at(s, place);
+    if c == b'#' {
+        return bad(place, NO_FD, 0);
+    }
+    if c == b'R' {
+        let at = place + 1;
+        let end = at + 1;
+        let digit = value(s, at, end, true);
+        if (8 < digit) & (at < to) {
+            return bad(at, WANTS_DATA, 0);
+        }
+        let f = WideFrame {
+            identifier: identifier + 2,
+            low: 0,
+            high: 0,
+            length: (digit % 16) as u32,
+        };
+        return finished(s, to, end, f);
+    }
     let end = run_end(s, place, Class::HexDigit);
     let n = distance(place, end);
     if (n % 2 != 0) | (16 < n) {
-        return broken(place, WANTS_DATA);
+        return bad(place, WANTS_DATA, 0);
     }
     let count = n / 2;
+    let d = pairs(s, end, count);
     let f = WideFrame {
         identifier: identifier,
-        low: word(s, place, count, 0),
-        high: word(s, place, count, 4),
+        low: (d % 4294967296) as u32,
+        high: (d / 4294967296) as u32,
         length: count as u32,
     };
     finished(s, to, end, f)
 }
 
-// Behind the letter R.
-fn remote(s: &[u8], to: usize, place: usize, identifier: u32) -> Spelled
-    ensures { λ r. ⌜ r ≡ frames.remote (now (s .entry)) to place identifier ⌝ }
+// Three digits are a standard identifier, eight an extended one.
+pub(crate) fn frame_line(s: &[u8], place: usize) -> Meaning
+    ensures { λ r. ⌜ r ≡ frames.frameLine (now (s .entry)) place ⌝ }
 {
-    let digit = digit_of(byte_at(s, place));
-    if (8 < digit) & (place < to) {
-        return broken(place, WANTS_DATA);
-    }
-    let f = WideFrame {
-        identifier: identifier,
-        low: 0,
-        high: 0,
-        length: (digit % 16) as u32,
-    };
-    finished(s, to, next(place), f)
-}
-
-fn behind_hash(s: &[u8], to: usize, place: usize, identifier: u32) -> Spelled
-    ensures { λ r. ⌜ r ≡ frames.behindHash (now (s .entry)) to place identifier ⌝ }
-{
-    let c = byte_at(s, place);
-    if c == b'#' {
-        return broken(place, NO_FD);
-    }
-    if c == b'R' {
-        return remote(
-            s,
-            to,
-            next(place),
-            std::num::wrapping_add_u32(identifier, 2),
-        );
-    }
-    with_data(s, to, place, identifier)
-}
-
-// The identifier word of so many digits.
-fn identifier(count: usize, n: u64) -> u64
-    ensures { λ r. ⌜ r ≡ frames.identifier count n ⌝ }
-{
+    let w = word_at(s, place);
+    let end = run_end(s, w.from, Class::HexDigit);
+    let count = distance(w.from, end);
+    let n = value(s, w.from, end, true);
     if (count == 3) & (n <= 0x7FF) {
-        return n * 2097152;
+        let standard = n * 2097152;
+        return behind_identifier(s, w.to, end, standard as u32);
     }
     if (count == 8) & (n <= 0x1FFFFFFF) {
-        return n * 8 + 4;
+        let extended = n * 8 + 4;
+        return behind_identifier(s, w.to, end, extended as u32);
     }
-    NO_IDENTIFIER
-}
-
-pub(crate) fn frame(s: &[u8], w: Word) -> Spelled
-    ensures { λ r. ⌜ r ≡ frames.frame (now (s .entry)) w ⌝ }
-{
-    let from = w.from;
-    let end = run_end(s, from, Class::HexDigit);
-    let n = identifier(distance(from, end), value(s, from, end, true));
-    if 4294967295 < n {
-        return broken(from, WANTS_IDENTIFIER);
-    }
-    if byte_at(s, end) != b'#' {
-        return broken(end, WANTS_HASH);
-    }
-    behind_hash(s, w.to, next(end), n as u32)
+    bad(w.from, WANTS_IDENTIFIER, 0)
 }

@@ -1,13 +1,14 @@
 // What a line of a lesson means: docs/LESSONS.md.
 ghost use mathlib.Core.Path.{_≡_};
 ghost use Rattle.lines.specs.Meanings as meanings;
-ghost use Rattle.lines.specs.Parts as parts;
 ghost use Rattle.lines.specs.Lines as lines;
 use model::Answer;
 use model::WideStep;
 use names::Group;
-use names::scan::Word;
 use names::scan::word_at;
+use numbers::Term;
+use numbers::by_name;
+use numbers::numeral;
 
 mod expectations; // what a step must answer
 mod frames; // a frame as can-utils writes it
@@ -115,141 +116,88 @@ pub(crate) fn bad(place: usize, rule: u32, number: u32) -> Meaning
     })
 }
 
-// Nothing stands there.
-pub(crate) fn is_empty(w: Word) -> bool
-    ensures { λ r. ⌜ r ≡ parts.isEmpty w ⌝ }
-{
-    w.to <= w.from
-}
-
 // A meaning that is whole: nothing follows.
 pub(crate) fn alone(s: &[u8], place: usize, m: Meaning) -> Meaning
     ensures { λ r. ⌜ r ≡ meanings.alone (now (s .entry)) place m ⌝ }
 {
     let w = word_at(s, place);
-    if is_empty(w) {
+    if w.to <= w.from {
         return m;
     }
     bad(w.from, WANTS_END, 0)
 }
 
-// ---- steps with numbers
+// ---- lines with numbers
 
-fn read_line(s: &[u8], place: usize) -> Meaning
-    ensures { λ r. ⌜ r ≡ lines.readLine (now (s .entry)) place ⌝ }
+// A word that stands for a number up to a limit, and nothing behind it.
+fn last(s: &[u8], t: Term, limit: u64, rule: u32, number: u32, m: Meaning) -> Meaning
+    ensures { λ r. ⌜ r ≡ meanings.last (now (s .entry)) t limit rule number m ⌝ }
 {
-    let w = word_at(s, place);
-    let o = numbers::by_name(s, w, Group::Registers);
-    if 65535 < o {
-        return bad(w.from, WANTS_REGISTER, 0);
+    if limit < t.number {
+        return bad(t.from, rule, number);
     }
-    alone(s, w.to, Meaning::Step(WideStep::Read(o as u32)))
+    alone(s, t.to, m)
 }
 
-fn bits_line(s: &[u8], place: usize) -> Meaning
-    ensures { λ r. ⌜ r ≡ lines.bitsLine (now (s .entry)) place ⌝ }
+// By the number of the line's first word.
+fn number_line(s: &[u8], step: u64, place: usize) -> Meaning
+    ensures { λ r. ⌜ r ≡ lines.numberLine (now (s .entry)) step place ⌝ }
 {
-    let w = word_at(s, place);
-    let n = numbers::number(s, w);
-    if 65535 < n {
-        return bad(w.from, WANTS_NUMBER, 65535);
+    match step {
+        2 => {
+            let t = by_name(s, place, Group::Registers);
+            let m = Meaning::Step(WideStep::Read(t.word));
+            last(s, t, 65535, WANTS_REGISTER, 0, m)
+        }
+        5 => {
+            let t = numeral(s, place);
+            let m = Meaning::Step(WideStep::BitTimes(t.word));
+            last(s, t, 65535, WANTS_NUMBER, 65535, m)
+        }
+        8 => {
+            let t = by_name(s, place, Group::Results);
+            let m = Meaning::Step(WideStep::Outcome(t.word));
+            last(s, t, 255, WANTS_RESULT, 0, m)
+        }
+        10 => {
+            let t = numeral(s, place);
+            if 255 < t.number {
+                return bad(t.from, WANTS_NUMBER, 255);
+            }
+            let u = numeral(s, t.to);
+            let m = Meaning::Step(WideStep::ReceiveError(t.word, u.word));
+            last(s, u, 255, WANTS_NUMBER, 255, m)
+        }
+        _ => {
+            let t = numeral(s, place);
+            let m = Meaning::Repeat(t.word);
+            last(s, t, 4294967295, WANTS_NUMBER, 4294967295, m)
+        }
     }
-    alone(s, w.to, Meaning::Step(WideStep::BitTimes(n as u32)))
-}
-
-fn end_line(s: &[u8], place: usize) -> Meaning
-    ensures { λ r. ⌜ r ≡ lines.endLine (now (s .entry)) place ⌝ }
-{
-    let w = word_at(s, place);
-    let n = numbers::by_name(s, w, Group::Results);
-    if 255 < n {
-        return bad(w.from, WANTS_RESULT, 0);
-    }
-    alone(s, w.to, Meaning::Step(WideStep::Outcome(n as u32)))
-}
-
-fn second_number(s: &[u8], place: usize, code: u32) -> Meaning
-    ensures { λ r. ⌜ r ≡ lines.secondNumber (now (s .entry)) place code ⌝ }
-{
-    let w = word_at(s, place);
-    let n = numbers::number(s, w);
-    if 255 < n {
-        return bad(w.from, WANTS_NUMBER, 255);
-    }
-    alone(
-        s,
-        w.to,
-        Meaning::Step(WideStep::ReceiveError(code, n as u32)),
-    )
-}
-
-fn error_line(s: &[u8], place: usize) -> Meaning
-    ensures { λ r. ⌜ r ≡ lines.errorLine (now (s .entry)) place ⌝ }
-{
-    let w = word_at(s, place);
-    let n = numbers::number(s, w);
-    if 255 < n {
-        return bad(w.from, WANTS_NUMBER, 255);
-    }
-    second_number(s, w.to, n as u32)
-}
-
-fn repeat_line(s: &[u8], place: usize) -> Meaning
-    ensures { λ r. ⌜ r ≡ lines.repeatLine (now (s .entry)) place ⌝ }
-{
-    let w = word_at(s, place);
-    let n = numbers::number(s, w);
-    if 4294967295 < n {
-        return bad(w.from, WANTS_NUMBER, 4294967295);
-    }
-    alone(s, w.to, Meaning::Repeat(n as u32))
-}
-
-fn frame_line(s: &[u8], place: usize) -> Meaning
-    ensures { λ r. ⌜ r ≡ lines.frameLine (now (s .entry)) place ⌝ }
-{
-    let w = word_at(s, place);
-    let f = frames::frame(s, w);
-    if f.rule != 0 {
-        return bad(f.place, f.rule, 0);
-    }
-    let x = f.frame;
-    alone(s, w.to, Meaning::Step(WideStep::Receive(x)))
 }
 
 // ---- a line
-
-// By the number of its first word, which ends at a place.
-fn line_of(s: &[u8], step: u64, w: Word) -> Meaning
-    ensures { λ r. ⌜ r ≡ lines.lineOf (now (s .entry)) step w ⌝ }
-{
-    let p = w.to;
-    match step {
-        1 => alone(s, p, Meaning::Step(WideStep::Reset)),
-        2 => read_line(s, p),
-        3 => parts::write_line(s, p),
-        4 => alone(s, p, Meaning::Step(WideStep::Idle)),
-        5 => bits_line(s, p),
-        6 => alone(s, p, Meaning::Step(WideStep::Activity)),
-        7 => alone(s, p, Meaning::Step(WideStep::Start)),
-        8 => end_line(s, p),
-        9 => frame_line(s, p),
-        10 => error_line(s, p),
-        11 => expectations::expect_line(s, p),
-        12 => repeat_line(s, p),
-        13 => alone(s, p, Meaning::Done),
-        14 => parts::bytes_line(s, p),
-        _ => bad(w.from, WANTS_STEP, 0),
-    }
-}
 
 // What a line means, without its line end.
 pub fn meaning_of(s: &[u8]) -> Meaning
     ensures { λ r. ⌜ r ≡ lines.meaningOf (now (s .entry)) ⌝ }
 {
-    let w = word_at(s, 0);
-    if is_empty(w) {
+    let t = by_name(s, 0, Group::Steps);
+    if t.to <= t.from {
         return Meaning::Nothing;
     }
-    line_of(s, numbers::name(s, w, Group::Steps), w)
+    let step = t.name;
+    match step {
+        1 => alone(s, t.to, Meaning::Step(WideStep::Reset)),
+        3 => parts::write_line(s, t.to),
+        4 => alone(s, t.to, Meaning::Step(WideStep::Idle)),
+        6 => alone(s, t.to, Meaning::Step(WideStep::Activity)),
+        7 => alone(s, t.to, Meaning::Step(WideStep::Start)),
+        9 => frames::frame_line(s, t.to),
+        11 => expectations::expect_line(s, t.to),
+        13 => alone(s, t.to, Meaning::Done),
+        14 => parts::bytes_line(s, t.to),
+        2 | 5 | 8 | 10 | 12 => number_line(s, step, t.to),
+        _ => bad(t.from, WANTS_STEP, 0),
+    }
 }

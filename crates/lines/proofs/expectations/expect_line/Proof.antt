@@ -1,62 +1,71 @@
+use native.Mathlib.Omega.{arith}
+use lib.Dec.{eqb, ltb}
+use borrow.Author.Tests.{ltb-false}
+use Rattle.model.proofs.Choices.{or-r}
+use borrow.Author.Tests.{eq-eqb, ne-eqb, lt-ltb, le-ltb}
 use Rattle.lines.specs.Expectations.{expectLine}
-use borrow.Author.Tests.{eq-eqb, ne-eqb}
 use borrow.Author.Needs.{needs}
 use Rattle.lines.proofs.expectations.expect_line.Statement.{statement}
 use Rattle.lines.proofs.expectations.expect_line.Tie as tie
 
-word-at-requires : tie.Need-word-at-requires
-word-at-requires c κs = search needs
+by-name-requires : tie.Need-by-name-requires
+by-name-requires c κs = search needs
 
-is-number-requires : tie.Need-is-number-requires
-is-number-requires c κs = search needs
-
-number-requires : tie.Need-number-requires
-number-requires c κs = search needs
-
-word-expected-requires : tie.Need-word-expected-requires
-word-expected-requires c κs = search needs
-
-returns : tie.Need-returns
-unfolding expectLine
-returns c = simp (c .word-expected .ensures, ← c .before .number .ensures, c .before .before .if1 .taken, ← (c .before .before .before .is-number .ensures), ← c .before .before .before .before .word-at .ensures)
-
-name-requires : tie.Need-name-requires
-name-requires c κs = search needs
-
-refused-requires : tie.Need-refused-requires
-refused-requires c κs = search needs
-
-returns-2 : tie.Need-returns-2
-unfolding expectLine
-returns-2 c = simp (c .refused .ensures, eq-eqb _ _ (c .before .if2 .taken), ← c .before .before .name .ensures, c .before .before .before .if1 .left, ← (c .before .before .before .before .is-number .ensures), ← c .before .before .before .before .before .word-at .ensures)
-
-lines-named-requires : tie.Need-lines-named-requires
-lines-named-requires c κs = search needs
-
-returns-3 : tie.Need-returns-3
-unfolding expectLine
-returns-3 c = simp (c .lines-named .ensures, eq-eqb _ _ (c .before .if3 .taken), ne-eqb _ _ (c .before .before .if2 .left), ← c .before .before .before .name .ensures, c .before .before .before .before .if1 .left, ← (c .before .before .before .before .before .is-number .ensures), ← c .before .before .before .before .before .before .word-at .ensures)
+numeral-requires : tie.Need-numeral-requires
+numeral-requires c κs = search needs
 
 bad-requires : tie.Need-bad-requires
 bad-requires c κs = search needs
 
+returns : tie.Need-returns
+unfolding expectLine
+returns c = rw (← c .before .before .before .before .before .before .before .by-name .ensures, eq-eqb _ _ (c .before .before .before .before .before .if1 .taken), ← c .before .before .before .before .numeral .ensures, c .before .if2 .taken, c .bad .ensures)
+
+cast-lines-behind : tie.Need-cast-lines-behind
+cast-lines-behind c = let n = c .before .before .before .before .numeral .result .number in record { fits = omega (arith, ltb-false 255 n (or-r (eqb n 0) (ltb 255 n) (c .before .if2 .left))) }
+
+lines-behind-requires : tie.Need-lines-behind-requires
+lines-behind-requires c κs = search needs
+
+returns-2 : tie.Need-returns-2
+unfolding expectLine
+returns-2 c = rw (← c .before .before .before .before .before .before .before .before .by-name .ensures, eq-eqb _ _ (c .before .before .before .before .before .before .if1 .taken), ← c .before .before .before .before .before .numeral .ensures, c .before .before .if2 .left, c .lines-behind .ensures)
+
+bad-requires-2 : tie.Need-bad-requires-2
+bad-requires-2 c κs = search needs
+
+returns-3 : tie.Need-returns-3
+unfolding expectLine
+returns-3 c = rw (← c .before .before .before .before .before .before .by-name .ensures, ne-eqb _ _ (c .before .before .before .before .if1 .left), c .before .before .before .if3 .taken, lt-ltb _ _ (c .before .if4 .taken), c .bad2 .ensures)
+
+lines-behind-requires-2 : tie.Need-lines-behind-requires-2
+lines-behind-requires-2 c κs = search needs
+
 returns-4 : tie.Need-returns-4
 unfolding expectLine
-returns-4 c = simp (c .bad .ensures, ne-eqb _ _ (c .before .if3 .left), ne-eqb _ _ (c .before .before .if2 .left), ← c .before .before .before .name .ensures, c .before .before .before .before .if1 .left, ← (c .before .before .before .before .before .is-number .ensures), ← c .before .before .before .before .before .before .word-at .ensures)
+returns-4 c = rw (← c .before .before .before .before .before .before .by-name .ensures, ne-eqb _ _ (c .before .before .before .before .if1 .left), c .before .before .before .if3 .taken, le-ltb _ _ (c .before .if4 .left), c .lines-behind2 .ensures)
+
+lines-behind-requires-3 : tie.Need-lines-behind-requires-3
+lines-behind-requires-3 c κs = search needs
+
+returns-5 : tie.Need-returns-5
+unfolding expectLine
+returns-5 c = rw (← c .before .before .before .before .by-name .ensures, ne-eqb _ _ (c .before .before .if1 .left), c .before .if3 .left, c .lines-behind3 .ensures)
 
 pub expect-line-spec : {M : Type 1} → statement M
 expect-line-spec =
     tie.close
     (tie.spec
-    word-at-requires
-    is-number-requires
-    number-requires
-    word-expected-requires
-    returns
-    name-requires
-    refused-requires
-    returns-2
-    lines-named-requires
-    returns-3
+    by-name-requires
+    numeral-requires
     bad-requires
-    returns-4)
+    returns
+    cast-lines-behind
+    lines-behind-requires
+    returns-2
+    bad-requires-2
+    returns-3
+    lines-behind-requires-2
+    returns-4
+    lines-behind-requires-3
+    returns-5)

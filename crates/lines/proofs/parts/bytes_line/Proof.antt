@@ -1,49 +1,88 @@
-use Rattle.lines.specs.Lines.{bytesLine}
-use borrow.Author.Tests.{eq-eqb, ne-eqb}
+-- The invariant: the definition, from the words so far on, gives what it gives from the start.
+use mathlib.Core.Path.{_≡_, refl, sym, _∙_}
+use borrow.Author.Tests.{le-leb}
+use Rattle.lines.proofs.Words.{bytes-done, bytes-bad, bytes-on, bytes-ended, bytes-begun}
+use borrow.Author.Tests.{lt-ltb, le-ltb, le-leb, lt-leb}
 use borrow.Author.Needs.{needs}
+use Rattle.lines.specs.Lines.{bytesOn, bytesLine}
 use Rattle.lines.proofs.parts.bytes_line.Statement.{statement}
 use Rattle.lines.proofs.parts.bytes_line.Tie as tie
 
-word-at-requires : tie.Need-word-at-requires
+abbrev Inv-loop : tie.InvT-loop
+Inv-loop s place w₀ first n₀ w n = bytesOn s first w n ≡ bytesOn s first w₀ n₀
+
+abbrev μ-loop : tie.MeasureT-loop
+μ-loop s place w₀ first n₀ w n = n
+
+word-at-requires : tie.Need-word-at-requires Inv-loop μ-loop
 word-at-requires c κs = search needs
 
-is-empty-requires : tie.Need-is-empty-requires
-is-empty-requires c κs = search needs
-
-bad-requires : tie.Need-bad-requires
+bad-requires : tie.Need-bad-requires Inv-loop μ-loop
 bad-requires c κs = search needs
 
-returns : tie.Need-returns
+returns : tie.Need-returns Inv-loop μ-loop
 unfolding bytesLine
-returns c = simp (c .bad .ensures, c .before .if1 .taken, ← (c .before .before .is-empty .ensures), ← c .before .before .before .word-at .ensures)
+returns c = rw (← c .before .before .before .word-at .ensures, le-leb _ _ (c .before .if1 .taken), c .bad .ensures)
 
-begun-requires : tie.Need-begun-requires
-begun-requires c κs = search needs
+loop-holds : tie.Need-loop-holds Inv-loop μ-loop
+loop-holds c = refl
 
-all-words-requires : tie.Need-all-words-requires
-all-words-requires c κs = search needs
+returns-2 : tie.Need-returns-2 Inv-loop μ-loop
+unfolding bytesLine
+returns-2 c =
+    sym (bytes-done _ _ _ _ (c .before .before .loop-test .taken) (c .if2 .taken)) ∙ c .before .before .before .loop .inv ∙ bytes-begun _ _ _ (c .before .before .before .before .before .before .word-at .ensures) (c .before .before .before .before .if1 .left)
 
-bad-requires-2 : tie.Need-bad-requires-2
+run-end-requires : tie.Need-run-end-requires Inv-loop μ-loop
+run-end-requires c κs = search needs
+
+sub-if3 : tie.Need-sub-if3 Inv-loop μ-loop
+sub-if3 c = search needs
+
+bad-requires-2 : tie.Need-bad-requires-2 Inv-loop μ-loop
 bad-requires-2 c κs = search needs
 
-returns-2 : tie.Need-returns-2
+returns-3 : tie.Need-returns-3 Inv-loop μ-loop
 unfolding bytesLine
-returns-2 c = simp (c .bad2 .ensures, ne-eqb _ _ (c .before .if2 .taken), ← c .before .before .before .all-words .ensures, ← c .before .before .before .before .begun .ensures, c .before .before .before .before .before .if1 .left, ← (c .before .before .before .before .before .before .is-empty .ensures), ← c .before .before .before .before .before .before .before .word-at .ensures)
+returns-3 c =
+    let f = rw (c .before .before .before .before .run-end .ensures) at (c .before .if3 .taken) in
+    c .bad2 .ensures ∙ sym (bytes-bad _ _ _ _ (c .before .before .before .before .before .before .before .loop-test .taken) (c .before .before .before .before .before .if2 .left) f) ∙ c .before .before .before .before .before .before .before .before .loop .inv ∙ bytes-begun _ _ _ (c .before .before .before .before .before .before .before .before .before .before .before .word-at .ensures) (c .before .before .before .before .before .before .before .before .before .if1 .left)
 
-returns-3 : tie.Need-returns-3
+word-at-requires-2 : tie.Need-word-at-requires-2 Inv-loop μ-loop
+word-at-requires-2 c κs = search needs
+
+sub-n : tie.Need-sub-n Inv-loop μ-loop
+sub-n c = search needs
+
+loop-less : tie.Need-loop-less Inv-loop μ-loop
+loop-less c = search needs
+
+loop-again : tie.Need-loop-again Inv-loop μ-loop
+loop-again c =
+    let f = rw (c .before .before .before .before .run-end .ensures) at (c .before .if3 .left) in
+    rw (c .word-at2 .ensures) (sym (bytes-on _ _ _ _ (c .before .before .before .before .before .before .before .loop-test .taken) (c .before .before .before .before .before .if2 .left) f) ∙ c .before .before .before .before .before .before .before .before .loop .inv)
+
+returns-4 : tie.Need-returns-4 Inv-loop μ-loop
 unfolding bytesLine
-returns-3 c = simp (eq-eqb _ _ (c .if2 .left), ← c .before .before .all-words .ensures, ← c .before .before .before .begun .ensures, c .before .before .before .before .if1 .left, ← (c .before .before .before .before .before .is-empty .ensures), ← c .before .before .before .before .before .before .word-at .ensures)
+returns-4 c =
+    sym (bytes-ended _ _ _ _ (c .loop-test .left)) ∙ c .before .loop .inv ∙ bytes-begun _ _ _ (c .before .before .before .before .word-at .ensures) (c .before .before .if1 .left)
 
 pub bytes-line-spec : {M : Type 1} → statement M
 bytes-line-spec =
     tie.close
     (tie.spec
+    Inv-loop
+    μ-loop
     word-at-requires
-    is-empty-requires
     bad-requires
     returns
-    begun-requires
-    all-words-requires
-    bad-requires-2
+    loop-holds
     returns-2
-    returns-3)
+    run-end-requires
+    sub-if3
+    bad-requires-2
+    returns-3
+    word-at-requires-2
+    sub-n
+    loop-less
+    loop-again
+    returns-4)
