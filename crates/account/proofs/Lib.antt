@@ -1,2 +1,3 @@
 pub mod Differing
 pub mod Lawful
+pub mod Offsets

@@ -1,11 +1,8 @@
 // The register of an access, by its number in the table of names.
 ghost use mathlib.Core.Path.{_≡_};
-ghost use Rattle.model.specs.Shown as shown;
 ghost use Rattle.model.specs.Registers as registers;
 ghost use Rattle.registers.specs.Accesses as accesses;
 ghost use Rattle.account.specs.Places as places;
-use model::Fifo;
-use model::Register;
 use model::Step;
 
 // The number of a register's name, and of its FIFO, mailbox or bank.
@@ -14,75 +11,44 @@ pub struct Place {
     pub index: u32,
 }
 
-fn fifo_number(f: Fifo) -> u32
-    ensures { λ r. ⌜ r ≡ shown.fifoNumber f ⌝ }
+// By the offset: the words of the mailboxes, of the FIFOs' outputs and of the banks, or one of the other registers.
+fn place_at(o: u16) -> Place
+    ensures { λ r. ⌜ r ≡ places.placeOf (registers.registerAt o) ⌝ }
 {
-    match f {
-        Fifo::F0 => 0,
-        Fifo::F1 => 1,
+    let x = o as u32;
+    if ((0x180 <= o) & (o < 0x1B0)) & (o % 4 == 0) {
+        return Place {
+            kind: 7 + x / 4 % 4,
+            index: x / 16 % 8,
+        };
     }
-}
-
-fn place_of(g: Register) -> Place
-    ensures { λ r. ⌜ r ≡ places.placeOf g ⌝ }
-{
-    match g {
-        Register::Mcr => Place { kind: 0, index: 0 },
-        Register::Msr => Place { kind: 1, index: 0 },
-        Register::Tsr => Place { kind: 2, index: 0 },
-        Register::Rfr(f) => Place {
-            kind: 3,
-            index: fifo_number(f),
-        },
-        Register::Ier => Place { kind: 4, index: 0 },
-        Register::Esr => Place { kind: 5, index: 0 },
-        Register::Btr => Place { kind: 6, index: 0 },
-        Register::Ti(m) => Place {
-            kind: 7,
-            index: queue::number(m),
-        },
-        Register::Tdt(m) => Place {
-            kind: 8,
-            index: queue::number(m),
-        },
-        Register::Tdl(m) => Place {
-            kind: 9,
-            index: queue::number(m),
-        },
-        Register::Tdh(m) => Place {
-            kind: 10,
-            index: queue::number(m),
-        },
-        Register::Ri(f) => Place {
-            kind: 11,
-            index: fifo_number(f),
-        },
-        Register::Rdt(f) => Place {
-            kind: 12,
-            index: fifo_number(f),
-        },
-        Register::Rdl(f) => Place {
-            kind: 13,
-            index: fifo_number(f),
-        },
-        Register::Rdh(f) => Place {
-            kind: 14,
-            index: fifo_number(f),
-        },
-        Register::Fmr => Place { kind: 15, index: 0 },
-        Register::R1(b) => Place {
-            kind: 16,
-            index: b.0,
-        },
-        Register::R2(b) => Place {
-            kind: 17,
-            index: b.0,
-        },
-        Register::Absent => Place { kind: 18, index: 0 },
-        Register::Fm1r => Place { kind: 19, index: 0 },
-        Register::Fs1r => Place { kind: 20, index: 0 },
-        Register::Ffa1r => Place { kind: 21, index: 0 },
-        Register::Fa1r => Place { kind: 22, index: 0 },
+    if ((0x1B0 <= o) & (o < 0x1D0)) & (o % 4 == 0) {
+        return Place {
+            kind: 11 + x / 4 % 4,
+            index: x / 16 % 9,
+        };
+    }
+    if ((0x240 <= o) & (o < 0x2B0)) & (o % 4 == 0) {
+        return Place {
+            kind: 16 + x / 4 % 2,
+            index: x / 8 % 72,
+        };
+    }
+    match o {
+        0x000 => Place { kind: 0, index: 0 },
+        0x004 => Place { kind: 1, index: 0 },
+        0x008 => Place { kind: 2, index: 0 },
+        0x00C => Place { kind: 3, index: 0 },
+        0x010 => Place { kind: 3, index: 1 },
+        0x014 => Place { kind: 4, index: 0 },
+        0x018 => Place { kind: 5, index: 0 },
+        0x01C => Place { kind: 6, index: 0 },
+        0x200 => Place { kind: 15, index: 0 },
+        0x204 => Place { kind: 19, index: 0 },
+        0x20C => Place { kind: 20, index: 0 },
+        0x214 => Place { kind: 21, index: 0 },
+        0x21C => Place { kind: 22, index: 0 },
+        _ => Place { kind: 18, index: 0 },
     }
 }
 
@@ -90,5 +56,9 @@ fn place_of(g: Register) -> Place
 pub fn of_step(e: Step) -> Place
     ensures { λ r. ⌜ r ≡ places.placeOf (registers.registerAt (accesses.offsetOf e)) ⌝ }
 {
-    place_of(registers::register_of(e))
+    match e {
+        Step::Read(o) => place_at(o),
+        Step::Write(o, _) => place_at(o),
+        _ => Place { kind: 18, index: 0 },
+    }
 }

@@ -136,9 +136,11 @@ pub fn unopened(l: Line) -> Line
 pub fn unopened_line(up: u8) -> Line
     ensures { λ r. ⌜ lines.EndsLine r ⌝ }
 {
-    let a = text::right(text::empty(), 1, NUMBER_WIDTH);
-    let b = put(a, b"  no reset, at byte 0");
-    byte(lines(unopened(column(b, ANSWER_COLUMN)), up), b'\n')
+    let a = put(
+        text::empty(),
+        b"      1  no reset, at byte 0                                 ",
+    );
+    byte(lines(unopened(a), up), b'\n')
 }
 
 // The same for standard error, by the program that says it, with the bytes that stand there, of which there are at most three.
