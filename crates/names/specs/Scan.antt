@@ -69,8 +69,8 @@ value s i j hex = valueOn s i hex (j - i) 0
 
 -- ---- words
 
-abbrev pub plain : ℕ → ℕ → Word
-plain i j = record { from = i; digits = j; rest = j; to = j }
+abbrev pub emptyAt : ℕ → Word
+emptyAt i = record { from = i; digits = i; rest = i; to = i }
 
 abbrev pub digitsEnd : List ℕ → ℕ → ℕ → ℕ → Word
 digitsEnd s i d j = record { from = i; digits = d; rest = runEnd s d Digit; to = j }
@@ -78,5 +78,5 @@ digitsEnd s i d j = record { from = i; digits = d; rest = runEnd s d Digit; to =
 -- the first word at or behind a place; '#' begins a comment, where it stands as the first letter of a word
 unfoldable pub wordAt : List ℕ → ℕ → Word
 wordAt s p =
-    pick (eqb (byteAt s (runEnd s p Blank)) 35) (plain (runEnd s p Blank) (runEnd s p Blank))
+    pick (eqb (byteAt s (runEnd s p Blank)) 35) (emptyAt (runEnd s p Blank))
     (digitsEnd s (runEnd s p Blank) (runEnd s (runEnd s p Blank) Letter) (runEnd s (runEnd s p Blank) NoBlank))

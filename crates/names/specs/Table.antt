@@ -10,12 +10,12 @@ use Rattle.names.specs.declared.Span.{Span}
 use Rattle.names.specs.declared.Group.{Group}
 use Rattle.names.specs.declared.Group.the-variants.{Registers, Fields, Steps, Results, Lines, Expectations}
 use Rattle.names.specs.declared.rows.Column.{Column}
-use Rattle.names.specs.declared.rows.Column.the-variants.{Place, Size, Count, Digits, Shown}
+use Rattle.names.specs.declared.rows.Column.the-variants.{Place, Size, Count, Shown}
 
 abbrev pub span : ℕ → ℕ → Span
 span i n = record { first = i; count = n }
 
--- the rows of a group: the first, and how many there are
+-- the rows of a group: the first, and how many there are; the last two numbers of a register are those of its fields
 unfoldable pub rowsOf : Group → Span
 rowsOf Registers = span 29 23
 rowsOf (Fields row) = span (numbers row .digits) (numbers row .shown)
@@ -36,7 +36,6 @@ unfoldable pub number : ℕ → Column → ℕ
 number row Place = numbers row .place
 number row Size = numbers row .size
 number row Count = numbers row .count
-number row Digits = numbers row .digits
 number row Shown = numbers row .shown
 
 -- an offset, a lowest bit, a tag, a result, a line

@@ -127,7 +127,6 @@ pub fn number(row: usize, c: Column) -> u32
         Column::Place => n.place,
         Column::Size => n.size,
         Column::Count => n.count,
-        Column::Digits => n.digits,
         Column::Shown => n.shown,
     }
 }

@@ -23,7 +23,6 @@ pub enum Column {
     Place,
     Size,
     Count,
-    Digits,
     Shown,
 }
 

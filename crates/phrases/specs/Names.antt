@@ -23,7 +23,7 @@ use Rattle.phrases.specs.declared.Said.{Said}
 unfoldable pub letterText : ℕ → ℕ → List ℕ
 letterText b i = pick (eqb b 37) (decimal i) (b ∷ [])
 
--- n letters of a name, from letter k on; a name ends at a blank, and no row has none
+-- n letters of a name, from letter k on; a name ends at a blank, and where no row is there are zeros
 unfoldable pub nameOn : List ℕ → ℕ → ℕ → ℕ → List ℕ
 nameOn t i k zero = []
 nameOn t i k (suc n) = pick (leb (getD t k 0) 32) [] (letterText (getD t k 0) i ++ nameOn t i (k + 1) n)

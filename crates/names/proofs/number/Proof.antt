@@ -18,9 +18,6 @@ enum-told-3 c = search needs
 enum-told-4 : tie.Need-enum-told-4
 enum-told-4 c = search needs
 
-enum-told-5 : tie.Need-enum-told-5
-enum-told-5 c = search needs
-
 returns : tie.Need-returns
 unfolding tables.number
 returns c = simp (c .enum-told .given .1, ← (c .before .before .numbers-of .ensures))
@@ -37,10 +34,6 @@ returns-4 : tie.Need-returns-4
 unfolding tables.number
 returns-4 c = simp (c .enum-told4 .given .1, ← (c .before .before .numbers-of .ensures))
 
-returns-5 : tie.Need-returns-5
-unfolding tables.number
-returns-5 c = simp (c .enum-told5 .given .1, ← (c .before .before .numbers-of .ensures))
-
 pub number-spec : {M : Type 1} → statement M
 number-spec =
     tie.close
@@ -50,9 +43,7 @@ number-spec =
     enum-told-2
     enum-told-3
     enum-told-4
-    enum-told-5
     returns
     returns-2
     returns-3
-    returns-4
-    returns-5)
+    returns-4)
