@@ -8,7 +8,7 @@ use native.Mathlib.Omega.{arith}
 use lib.Dec.{eqb, ltb, leb}
 use lib.ListN.{length, getD}
 use borrow.Author.Tests.{ltb-true, ltb-false, lt-leb, le-leb}
-use Rattle.model.specs.Base.{pick, bit, bits, one}
+use Rattle.base.specs.Base.{pick, bit, bits, one}
 use Rattle.model.specs.Queue.{isEmpty}
 use Rattle.model.specs.Control.{isSleep, isInitialization, isNormal, boff, lbkm, silm}
 use Rattle.model.specs.Reception.{malformed}

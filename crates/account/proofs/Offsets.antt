@@ -6,9 +6,9 @@ use Prim.Native.Nat.{ℕ, _+_, _/_, _%_, _<_}
 use native.Mathlib.Omega.{arith}
 use lib.Dec.{eqb, ltb, leb}
 use borrow.Author.Tests.{eqb-true, ne-eqb, ltb-true, ltb-false}
-use Rattle.model.proofs.Choices.{Is, and-l, and-r}
+use Rattle.base.proofs.Choices.{Is, and-l, and-r}
 use Rattle.model.proofs.Bounded.{allBelow, each-below}
-use Rattle.model.specs.Base.{pick}
+use Rattle.base.specs.Base.{pick}
 use Rattle.model.specs.Registers.{registerAt, controlRegister, blockRegister, mailboxRegister, outputRegister, filterRegister, bankRegister}
 use Rattle.registers.proofs.Offsets.{from-banks}
 use Rattle.account.specs.Places.{place, placeOf}

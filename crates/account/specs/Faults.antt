@@ -4,7 +4,7 @@ use mathlib.Core.List.{List}
 use Prim.Native.Nat.{ℕ, _+_, _-_, _*_}
 use lib.Dec.{eqb, ltb, leb}
 use lib.ListN.{length, getD}
-use Rattle.model.specs.Base.{pick, one}
+use Rattle.base.specs.Base.{pick, one}
 use Rattle.model.specs.Script.{bodyLength, number16, byteAt}
 use Rattle.account.specs.declared.faults.Fault.{Fault}
 

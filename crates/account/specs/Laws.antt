@@ -7,7 +7,7 @@ use mathlib.Core.List.{List, [], _∷_}
 use Prim.Native.Nat.{ℕ, _+_, _*_, _%_}
 use lib.Dec.{eqb, ltb, leb}
 use lib.ListN.{length, getD}
-use Rattle.model.specs.Base.{pick, bit, bits}
+use Rattle.base.specs.Base.{pick, bit, bits}
 use Rattle.model.specs.Queue.{isEmpty}
 use Rattle.model.specs.Control.{isSleep, isNormal, boff, lbkm, silm}
 use Rattle.model.specs.Registers.{registerAt, isAbsent, isFree, writeRefusal}

@@ -5,7 +5,7 @@ use mathlib.Core.Path.{_≡_}
 use Prim.Native.Nat.{ℕ, _/_, _%_, _<_}
 use lib.Dec.{eqb}
 use lib.ListN.{getD}
-use Rattle.model.specs.Base.{pick, one}
+use Rattle.base.specs.Base.{pick, one}
 use Rattle.model.specs.Queue.{holds, isFrom}
 use Rattle.model.specs.Registers.{readWord, bankCount}
 use Rattle.model.specs.Search.{acceptance}

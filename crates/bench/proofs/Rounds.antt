@@ -10,7 +10,7 @@ use lib.Dec.{eqb, ltb}
 use lib.ListN.{length, take, drop, length-append, length-drop}
 use lib.Seq.{length-take-le}
 use borrow.Author.Tests.{ltb-false, ne-eqb}
-use Rattle.model.specs.Base.{pick}
+use Rattle.base.specs.Base.{pick}
 use Rattle.model.specs.Script.{reply, recordAt, replyOf, overwritten, stops, Progress, begun, afterRecord, advanced, times, replay}
 use Rattle.model.specs.Scripts.{isEnd}
 use Rattle.model.specs.declared.Controller.{Controller}

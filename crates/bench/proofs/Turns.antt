@@ -5,7 +5,7 @@ use mathlib.Core.List.{List}
 use Prim.Native.Nat.{ℕ, suc, _+_, _-_, _≤_, _<_, _^_}
 use native.Mathlib.Omega.{arith}
 use lib.ListN.{length, take, drop}
-use Rattle.model.specs.Base.{pick, one}
+use Rattle.base.specs.Base.{pick, one}
 use Rattle.model.specs.Script.{recordAt, replyOf, overwritten, stops, replay}
 use Rattle.model.specs.Script as scripts
 use Rattle.model.specs.declared.Controller.{Controller}

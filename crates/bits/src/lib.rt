@@ -1,7 +1,7 @@
 // Bits of words, flags as numbers, and choices between numbers.
 ghost use mathlib.Core.Path.{_≡_};
 ghost use Prim.Native.Nat.{_<_, _≤_, min};
-ghost use Rattle.model.specs.Base as base;
+ghost use Rattle.base.specs.Base as base;
 
 // Bit i of w; a word has no bits from 32 on.
 pub fn bit(i: u32, w: u32) -> bool

@@ -7,7 +7,7 @@ use lib.Dec.{eqb, ltb}
 use borrow.Author.Tests.{ltb-false}
 use lib.Bits.{bitAnd}
 use lib.Pow.{shr-le}
-use Rattle.model.specs.Base.{pick, bit}
+use Rattle.base.specs.Base.{pick, bit}
 use Rattle.model.specs.Banks.{banksBelow, isActive, classBy, classOf, rank, belongs, own}
 use Rattle.model.specs.Search.{searched}
 use Rattle.model.specs.declared.Filters.{Filters}

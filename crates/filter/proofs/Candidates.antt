@@ -7,7 +7,7 @@ use native.Mathlib.Nat.{le-refl}
 use native.Mathlib.Decide.{le-ind}
 use native.Mathlib.Omega.{arith}
 use lib.ListN.{length, length-append}
-use Rattle.model.specs.Base.{pick, sum}
+use Rattle.base.specs.Base.{pick, sum}
 use Rattle.model.specs.Banks.{bank}
 use Rattle.model.specs.declared.Bank.{Bank}
 use Rattle.filter.specs.Compared.{Candidate, candidate, row, ofBank, ofBanks, upToFirst}

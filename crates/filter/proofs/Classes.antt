@@ -9,7 +9,7 @@ use borrow.Author.Tests.{ltb-true, ltb-false, lt-ltb, le-ltb}
 use lib.Bits.{bitAnd, and-zero-l}
 use lib.Dec.{eqb, ltb}
 use lib.ListN.{length, length-append}
-use Rattle.model.specs.Base.{pick, bit}
+use Rattle.base.specs.Base.{pick, bit}
 use Rattle.model.specs.Banks.{bank, classOf, rank, width, own, numberOf}
 use Rattle.model.specs.Search.{first, searched, tried, hitAt, hitIn, firstHit, better, orNext, chosen, acceptance}
 use Rattle.model.specs.declared.Filters.{Filters}

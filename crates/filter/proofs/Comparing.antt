@@ -4,7 +4,7 @@ use mathlib.Core.Bool.{Bool, true, false}
 use mathlib.Core.List.{List}
 use Prim.Native.Nat.{ℕ, _+_, _<_}
 use lib.ListN.{length, length-append}
-use Rattle.model.specs.Base.{pick, sum}
+use Rattle.base.specs.Base.{pick, sum}
 use Rattle.model.specs.Banks.{bank, numberOf}
 use Rattle.model.specs.Search.{tried, hitAt, hitIn, firstHit}
 use Rattle.model.specs.declared.Filters.{Filters}

@@ -9,7 +9,7 @@ use lib.Dec.{eqb}
 use lib.Bits.{bitAnd, and-le-l}
 use lib.Count.{trailingZeros, under}
 use lib.Pow.{pow-lt, pow-add, shl-shr}
-use Rattle.model.specs.Base.{bit}
+use Rattle.base.specs.Base.{bit}
 use Rattle.model.proofs.Digits.{digit-of-half, one-shifted}
 use Rattle.model.proofs.FirstHit.{lower}
 use Rattle.filter.proofs.BankWords.{and-bit, not-bit}

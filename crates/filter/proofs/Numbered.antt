@@ -9,7 +9,7 @@ use lib.Bits.{bitAnd, and-le-l}
 use lib.Count.{trailingZeros}
 use lib.Dec.{eqb, ltb, leb}
 use lib.Pow.{shr-shr, shr-le}
-use Rattle.model.specs.Base.{pick, bit, sum}
+use Rattle.base.specs.Base.{pick, bit, sum}
 use Rattle.model.specs.Banks.{bank, filterNumber, classOf, classBy, width, belongs, share, numbersBelow, firstNumber}
 use Rattle.model.specs.Search.{searched, tried}
 use Rattle.model.specs.declared.Filters.{Filters}

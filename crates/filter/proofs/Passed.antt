@@ -9,7 +9,7 @@ use borrow.Author.Tests.{le-leb, lt-leb}
 use lib.Count.{trailingZeros}
 use lib.Dec.{leb}
 use lib.ListN.{length}
-use Rattle.model.specs.Base.{pick, bit, sum}
+use Rattle.base.specs.Base.{pick, bit, sum}
 use Rattle.model.specs.Banks.{bank, width, numberOf}
 use Rattle.model.specs.Search.{first, hitAt}
 use Rattle.model.specs.declared.Filters.{Filters}

@@ -9,7 +9,7 @@ use native.Mathlib.Omega.{arith}
 use borrow.Author.Tests.{lt-ltb, le-ltb, ltb-false, eq-eqb, ne-eqb}
 use lib.Dec.{eqb, ltb}
 use lib.ListN.{length, length-append}
-use Rattle.model.specs.Base.{pick, bit, sum}
+use Rattle.base.specs.Base.{pick, bit, sum}
 use Rattle.model.specs.Banks.{bank, filterNumber, isActive, classOf, rank, width, belongs, firstNumber, numberOf}
 use Rattle.model.specs.Search.{searched, tried, firstHit, better}
 use Rattle.model.specs.Filtering.{NumberNoLater, Accepted}

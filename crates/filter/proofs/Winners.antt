@@ -6,7 +6,7 @@ use Prim.Native.Nat.{ℕ, _+_, _*_, _/_, _%_, _≤_, _<_}
 use native.Mathlib.Omega.{arith}
 use borrow.Author.Tests.{ltb-true, ltb-false, lt-ltb, le-ltb, lt-leb}
 use lib.Dec.{ltb}
-use Rattle.model.specs.Base.{pick}
+use Rattle.base.specs.Base.{pick}
 use Rattle.model.specs.Banks.{bank, classOf, banksBelow, firstNumber, numberOf}
 use Rattle.model.specs.Search.{first, searched, tried, hitAt, hitIn, firstHit, better, chosen, acceptance}
 use Rattle.model.specs.declared.Filters.{Filters}

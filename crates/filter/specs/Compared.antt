@@ -7,7 +7,7 @@ use mathlib.Core.Path.{_≡_}
 use Prim.Native.Nat.{ℕ, zero, suc, _+_, _≤_, _<_}
 use lib.Dec.{ltb}
 use lib.ListN.{length}
-use Rattle.model.specs.Base.{pick, sum}
+use Rattle.base.specs.Base.{pick, sum}
 use Rattle.model.specs.Banks.{bank, firstWord, secondWord, isActive, classOf, rank, width, matches, belongs, firstNumber, numberOf}
 use Rattle.model.specs.Search.{tried, firstHit, better, acceptance}
 use Rattle.model.specs.Filtering.{NumberNoLater, Accepted}

@@ -7,7 +7,7 @@ use mathlib.Core.List.{List}
 use Prim.Native.Nat.{ℕ, _+_, _*_, _/_, _%_, _^_, _≤_, _<_}
 use lib.Dec.{eqb, ltb, leb}
 use lib.ListN.{length}
-use Rattle.model.specs.Base.{pick, bit, sum}
+use Rattle.base.specs.Base.{pick, bit, sum}
 use Rattle.model.specs.Banks.{bank, filterNumber, width, firstNumber, numberOf}
 use Rattle.model.specs.Search.{first, searched, hitAt, firstHit, better, acceptance}
 use Rattle.model.specs.declared.Filters.{Filters}

@@ -4,7 +4,7 @@ ghost use mathlib.Core.Path.{_≡_};
 ghost use Prim.Native.Nat.{ℕ, _+_, _<_, _≤_};
 ghost use lib.Dec.{eqb};
 ghost use Rattle.model.specs.declared.FilterClass.the-variants.{List32, Mask32, List16, Mask16};
-ghost use Rattle.model.specs.Base as base;
+ghost use Rattle.base.specs.Base as base;
 ghost use Rattle.model.specs.Banks as banks;
 ghost use Rattle.model.specs.Banks.{firstWord, secondWord, shortWord};
 ghost use Rattle.model.specs.Search as filtering;

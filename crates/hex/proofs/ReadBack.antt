@@ -7,10 +7,10 @@ use native.Mathlib.Omega.{arith}
 use lib.Dec.{eqb, leb}
 use lib.ListN.{length}
 use borrow.Author.Tests.{leb-true, eqb-true, eq-eqb, ne-eqb, lt-ltb, le-ltb}
-use Rattle.model.specs.Base.{pick}
+use Rattle.base.specs.Base.{pick}
 use Rattle.model.specs.Records.{Bytes}
 use Rattle.model.specs.Script.{byteAt}
-use Rattle.model.proofs.Choices.{Is, and-l, and-r, pick-cases}
+use Rattle.base.proofs.Choices.{Is, and-l, and-r, pick-cases}
 use Rattle.model.proofs.Bounded.{allBelow, each-below}
 use Rattle.hex.specs.Text.{kindNumbers, faultNumbers, placeNumbers, isWithin, kindOf, taken, readerAfter, givenBy, afterByte, afterDigit, inComment, secondDigit, along, at, bytesOf, start, Progress, readOn, unhexed, ended, read}
 use Rattle.hex.specs.Written.{CasesApart, upperDigit, lowerDigit, Digits, Places, hexOf, ReadBack, TwoPieces, StaysAtFault}

@@ -5,7 +5,7 @@ use mathlib.Core.List.{List, [], _∷_, _++_}
 use Prim.Native.Nat.{ℕ, _+_, _-_, _*_, _%_, _^_}
 use lib.Dec.{eqb, leb}
 use lib.ListN.{length, set}
-use Rattle.model.specs.Base.{pick}
+use Rattle.base.specs.Base.{pick}
 use Rattle.hex.specs.declared.Kind.{Kind}
 use Rattle.hex.specs.declared.Kind.the-variants.{Digit, Blank, LineEnd, Hash, Other}
 use Rattle.hex.specs.declared.Fault.{Fault}

@@ -5,7 +5,7 @@ use mathlib.Core.Path.{_≡_}
 use mathlib.Core.List.{List, [], _∷_, _++_}
 use Prim.Native.Nat.{ℕ, _+_, _-_, _*_, _/_, _%_, _<_}
 use lib.Dec.{eqb, ltb}
-use Rattle.model.specs.Base.{pick}
+use Rattle.base.specs.Base.{pick}
 use Rattle.model.specs.Records.{Bytes}
 use Rattle.hex.specs.Text.{kindNumbers, faultNumbers, placeNumbers, kindOf, taken, bytesOf, unhexed, read}
 use Rattle.hex.specs.declared.Kind.{Kind}

@@ -9,7 +9,7 @@ use lib.Dec.{eqb, ltb}
 use lib.ListN.{length, take, drop}
 use lib.Seq.{take-append-le}
 use borrow.Author.Tests.{lt-ltb, le-ltb, ltb-true, ltb-false}
-use Rattle.model.specs.Base.{pick}
+use Rattle.base.specs.Base.{pick}
 use Rattle.model.specs.Lesson.{opens, endsWith, lessonAt, lessonReplay}
 use Rattle.model.specs.Script.{reply, replyOf, replayed, recordAt, reading, stops, afterRecord, begun, advanced, times, Progress, replay}
 use Rattle.model.specs.declared.Reading.the-variants.{Malformed}

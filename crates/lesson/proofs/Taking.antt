@@ -7,7 +7,7 @@ use native.Mathlib.Omega.{arith}
 use lib.Dec.{eqb}
 use lib.ListN.{length, drop}
 use lib.Seq.{take-append-le, take-all}
-use Rattle.model.specs.Base.{pick}
+use Rattle.base.specs.Base.{pick}
 use Rattle.model.specs.Lesson.{opens}
 use Rattle.model.specs.Script.{replyOf, overwritten}
 use Rattle.model.specs.declared.Replayed.{Replayed}

@@ -6,7 +6,7 @@ use mathlib.Core.List.{List, [], _∷_, _++_, flatten}
 use Prim.Native.Nat.{ℕ, _+_, _*_, _/_, _≤_}
 use lib.Dec.{eqb, ltb}
 use lib.ListN.{length, take, drop}
-use Rattle.model.specs.Base.{pick}
+use Rattle.base.specs.Base.{pick}
 use Rattle.model.specs.Lesson.{opens, refusedOpening, endsWith, lessonReplay}
 use Rattle.model.specs.Script.{replyOf, overwritten, replay}
 use Rattle.model.specs.Scripts.{Fit}

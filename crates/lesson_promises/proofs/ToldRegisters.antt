@@ -9,11 +9,11 @@ use native.Mathlib.Omega.{arith}
 use lib.Dec.{eqb, ltb, leb}
 use lib.ListN.{getD}
 use borrow.Author.Tests.{eqb-true, ltb-true, ltb-false, leb-true, le-ltb, le-leb, ne-eqb}
-use Rattle.model.specs.Base.{pick}
+use Rattle.base.specs.Base.{pick}
 use Rattle.model.specs.Registers as model
 use Rattle.model.specs.Registers.{isAbsent, controlRegister, mailboxRegister, outputRegister, blockRegister, bankRegister, filterRegister}
 use Rattle.model.specs.declared.Register.the-variants.{Absent}
-use Rattle.model.proofs.Choices.{Is, and-l, and-r, pick-cases}
+use Rattle.base.proofs.Choices.{Is, and-l, and-r, pick-cases}
 use Rattle.model.proofs.Bounded.{allBelow, each-below}
 use Rattle.names.specs.Rows.{nowhere, indexIn, indexAt, registerOn}
 use Rattle.names.specs.Table.{number, place, registerAt}

@@ -5,7 +5,7 @@ use Prim.Native.Nat.{ℕ, _+_, _*_, _^_, _<_, _≤_}
 use native.Mathlib.Omega.{arith}
 use lib.Dec.{eqb, leb}
 use borrow.Author.Tests.{leb-true}
-use Rattle.model.proofs.Choices.{and-r}
+use Rattle.base.proofs.Choices.{and-r}
 
 pub record Fitting (x : ℕ) : Type 0 where
   pub wide : x < 2 ^ 64

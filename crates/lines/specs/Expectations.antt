@@ -3,7 +3,7 @@ use mathlib.Core.Bool.{Bool, true, false, _||_, _&&_, not}
 use mathlib.Core.List.{List}
 use Prim.Native.Nat.{ℕ, _%_}
 use lib.Dec.{eqb, ltb}
-use Rattle.model.specs.Base.{pick}
+use Rattle.base.specs.Base.{pick}
 use Rattle.names.specs.declared.Group.the-variants.{Lines, Expectations}
 use Rattle.lines.specs.Numbers.{isEmpty, numeral, byName}
 use Rattle.lines.specs.Parts.{lineNames, allWords}

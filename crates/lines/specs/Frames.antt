@@ -3,7 +3,7 @@ use mathlib.Core.Bool.{true, _&&_, _||_, not}
 use mathlib.Core.List.{List}
 use Prim.Native.Nat.{ℕ, zero, suc, _-_, _+_, _*_, _/_, _%_, _^_}
 use lib.Dec.{eqb, ltb, leb}
-use Rattle.model.specs.Base.{pick}
+use Rattle.base.specs.Base.{pick}
 use Rattle.model.specs.declared.WideFrame.{WideFrame}
 use Rattle.model.specs.declared.WideStep.the-variants.{Receive}
 use Rattle.names.specs.Scan.{byteAt, runEnd, wordAt, value}

@@ -4,7 +4,7 @@ use mathlib.Core.List.{List}
 use Prim.Native.Nat.{ℕ, zero, suc, _-_, _%_, _^_}
 use lib.Dec.{eqb, ltb, leb}
 use lib.ListN.{length}
-use Rattle.model.specs.Base.{pick}
+use Rattle.base.specs.Base.{pick}
 use Rattle.model.specs.declared.WideStep.the-variants.{Reset, Read, Write, Idle, BitTimes, Activity, Start, Outcome, ReceiveError}
 use Rattle.names.specs.Scan.{runEnd, wordAt}
 use Rattle.names.specs.declared.scan.Word.{Word}

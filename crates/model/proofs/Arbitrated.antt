@@ -6,7 +6,7 @@ use Prim.Native.Nat.{ℕ, _+_, _*_, _<_, _≤_}
 use native.Mathlib.Omega.{arith}
 use lib.Dec.{eqb, ltb}
 use borrow.Author.Tests.{eqb-false, ltb-true, ltb-false, lt-ltb}
-use Rattle.model.specs.Base.{pick, bit}
+use Rattle.base.specs.Base.{pick, bit}
 use Rattle.model.specs.Queue.{number, same, holds, without, oldest, newest, isFrom, isNobody, isEmpty, besides, orderNumbers, senderNumbers}
 use Rattle.model.specs.Mailboxes.{at, identifiers, identifier, wireKey, key, before, sooner, later, firstInWireOrder, lastInWireOrder, first, last, lastOf, started}
 use Rattle.model.specs.Control.{txfp}
@@ -25,7 +25,7 @@ use Rattle.model.specs.declared.Identifiers.{Identifiers}
 use Rattle.model.specs.declared.Core.{Core}
 use Rattle.model.specs.declared.Controller.{Controller}
 use Rattle.model.specs.declared.Step.the-variants.{Start}
-use Rattle.model.proofs.Choices.{Is, imp, imp-Is, not-Is, Is-not, and-l, beq-eq, opposed, pick-cases}
+use Rattle.base.proofs.Choices.{Is, imp, imp-Is, not-Is, Is-not, and-l, beq-eq, opposed, pick-cases}
 use Rattle.model.proofs.Orders.{mailboxes, orders, each-mailbox, each-order, each, same-eq, same-comm}
 use Rattle.model.proofs.Follows.{first-carried, from-eq}
 use Rattle.model.proofs.RegisterAccess.{Somebody, start-accepted}

@@ -5,12 +5,12 @@ use mathlib.Core.List.{List, [], _∷_}
 use Prim.Native.Nat.{ℕ, _≤_}
 use native.Mathlib.Omega.{arith}
 use lib.ListN.{length}
-use Rattle.model.specs.Base.{pick, bits}
+use Rattle.base.specs.Base.{pick, bits}
 use Rattle.model.specs.Reception.{pushed, released, cleared, rfrWord, output}
 use Rattle.model.specs.History.{none, releases, arrives, waitingNext, oldestFrame}
 use Rattle.model.specs.declared.StoredFrame.{StoredFrame}
 use Rattle.model.specs.declared.FifoState.{FifoState}
-use Rattle.model.proofs.Choices.{one-le}
+use Rattle.base.proofs.Choices.{one-le}
 
 -- the frames of a FIFO, by its count
 pub data Holds (q : FifoState) : List StoredFrame → Type 0 where

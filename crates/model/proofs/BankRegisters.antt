@@ -10,7 +10,7 @@ use borrow.Author.Tests.{lt-ltb, ltb-true, eq-eqb, eqb-true, eqb-false}
 use lib.Dec.{eqb, ltb}
 use lib.ListN.{length, getD, set}
 use lib.Seq.{getD-set-same, getD-set-other}
-use Rattle.model.specs.Base.{bit}
+use Rattle.base.specs.Base.{bit}
 use Rattle.model.specs.Banks.{bank, classBy, classOf, belongs}
 use Rattle.model.specs.Registers.{registerAt, filterRegister, isAbsent, bankCount, bankWord, withBankWord, banksWritten, readWord}
 use Rattle.model.specs.Step.{step, answered, refusal, wordOf, banksAfter, banksApplied}
@@ -26,7 +26,7 @@ use Rattle.model.specs.declared.Register.{Register}
 use Rattle.model.specs.declared.Register.the-variants.{Mcr, Msr, Tsr, Rfr, Ier, Esr, Btr, Ti, Tdt, Tdl, Tdh, Ri, Rdt, Rdl, Rdh, Fmr, Fm1r, Fs1r, Ffa1r, Fa1r, R1, R2, Absent}
 use Rattle.model.specs.declared.Step as steps
 use Rattle.model.specs.declared.Step.the-variants.{Reset, Read, Write, Idle, BitTimes, Activity, Start, Outcome, Receive, ReceiveError}
-use Rattle.model.proofs.Choices.{Is-not, pick-cases}
+use Rattle.base.proofs.Choices.{Is-not, pick-cases}
 use Rattle.model.proofs.Mapped.{map}
 use Rattle.model.proofs.RegisterAccess.{elsewhere}
 

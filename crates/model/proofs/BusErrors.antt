@@ -6,7 +6,7 @@ use Prim.Native.Nat.{ℕ, _+_, _-_, _/_, _%_, _^_, _≤_, _<_}
 use native.Mathlib.Omega.{arith}
 use lib.Dec.{eqb, ltb, leb}
 use borrow.Author.Tests.{eqb-true, ltb-true, ltb-false, eq-eqb, ne-eqb, leb-true, leb-false, lt-ltb, le-ltb}
-use Rattle.model.specs.Base.{pick, bit}
+use Rattle.base.specs.Base.{pick, bit}
 use Rattle.model.specs.Queue.{isNobody}
 use Rattle.model.specs.Control.{abom, inrq, sleep, isInitialization, isNormal, boff, outcomeErrors, idleErrors, receivedErrors, recPlus, receiveErrorCounters, idleCounts, recovers, counted, idled, idleMode, modeNext, entered, errorsChanged, ticked, woken, controlReset, masterReset, mcrWritten, msrWritten, ierWritten, btrWritten, esrWritten}
 use Rattle.model.specs.Control as control
@@ -28,7 +28,7 @@ use Rattle.model.specs.declared.Register.{Register}
 use Rattle.model.specs.declared.Register.the-variants.{Mcr, Msr, Tsr, Rfr, Ier, Esr, Btr, Ti, Tdt, Tdl, Tdh, Ri, Rdt, Rdl, Rdh, Fmr, Fm1r, Fs1r, Ffa1r, Fa1r, R1, R2, Absent}
 use Rattle.model.specs.declared.Step as steps
 use Rattle.model.specs.declared.Step.the-variants.{Reset, Read, Write, Idle, BitTimes, Activity, Start, Outcome, Receive, ReceiveError}
-use Rattle.model.proofs.Choices.{Is, Not, and-l, and-r, Is-not, pick-cases, refused-unless}
+use Rattle.base.proofs.Choices.{Is, Not, and-l, and-r, Is-not, pick-cases, refused-unless}
 use Rattle.model.proofs.Follows.{end-accepted, may-end}
 use Rattle.model.proofs.Mapped.{map}
 use Rattle.model.proofs.RegisterAccess.{elsewhere}

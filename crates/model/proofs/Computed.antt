@@ -1,5 +1,5 @@
 -- Bundles of definitions: `unfolding everything` opens all that a step on a given state computes with.
-use Rattle.model.specs.Base.{sum}
+use Rattle.base.specs.Base.{sum}
 use Rattle.model.specs.Queue.{aborted, abortedAll, offWire}
 use Rattle.model.specs.Mailboxes as mailboxes
 use Rattle.model.specs.Banks.{classOf, matches, firstNumber}

@@ -5,14 +5,14 @@ use Prim.Native.Nat.{ℕ, _+_, _-_, _%_, _^_, _<_, _≤_}
 use native.Mathlib.Omega.{arith}
 use lib.Dec.{eqb, ltb, leb}
 use borrow.Author.Tests.{ltb-false, leb-false, not-true}
-use Rattle.model.specs.Base.{pick, bit, bits}
+use Rattle.base.specs.Base.{pick, bit, bits}
 use Rattle.model.specs.Control.{inrq, sleep, ttcm, awum, isSleep, isInitialization, isNormal, boff, modeNext, entered, settled, masterReset, mcrMasked, mcrWritten, msrWritten, ierWritten, btrWritten, esrWritten, idleCounts, recovers, counted, idleMode, idled, idleErrors, ticked, woken, outcomeErrors, receivedErrors, recPlus, receiveErrorCounters, errorsChanged}
 use Rattle.model.specs.Reachable.{ControlRange, ErrorRange, RecoveryRange}
 use Rattle.model.specs.declared.Mode.{Mode}
 use Rattle.model.specs.declared.Mode.the-variants.{Sleep, Initialization, Normal}
 use Rattle.model.specs.declared.Control.{Control}
 use Rattle.model.specs.declared.Errors.{Errors}
-use Rattle.model.proofs.Choices.{pick-cases, and-l, and-r, opposed}
+use Rattle.base.proofs.Choices.{pick-cases, and-l, and-r, opposed}
 use Rattle.model.proofs.Masks.{mcr-masked, ier-masked, btr-masked, ttcm-masked, sleep-cleared, ttcm-kept}
 
 -- ---- register writes

@@ -2,7 +2,7 @@
 use mathlib.Core.Bool.{true, not, _&&_}
 use mathlib.Core.Path.{_≡_, sym, _∙_, ap}
 use Prim.Native.Nat.{ℕ}
-use Rattle.model.specs.Base.{bit}
+use Rattle.base.specs.Base.{bit}
 use Rattle.model.specs.Control.{isInitialization, isNormal}
 use Rattle.model.specs.Registers.{withControl, withErrors, withTransmit, withFilters, withFifo, fifoOf, isFree}
 use Rattle.model.specs.Reachable.{ControlRange, ErrorRange, RecoveryRange, TransmitRange, WireRange, FifoRange, FilterRange, CoreRange}
@@ -14,7 +14,7 @@ use Rattle.model.specs.declared.Transmit.{Transmit}
 use Rattle.model.specs.declared.FifoState.{FifoState}
 use Rattle.model.specs.declared.Filters.{Filters}
 use Rattle.model.specs.declared.Core.{Core}
-use Rattle.model.proofs.Choices.{opposed}
+use Rattle.base.proofs.Choices.{opposed}
 
 -- with a free wire nothing is asked of mode and errors
 pub free-wire-range : (c : Core) → isFree c ≡ true → WireRange c

@@ -7,7 +7,7 @@ use native.Mathlib.Omega.{arith}
 use lib.Bits.{bitAnd, bitXor, differ, and-step, xor-step, and-shr, xor-shr, and-mask, and-le-l, xor-add-and}
 use lib.Count.{ones, ones-cat, ones-le}
 use lib.Pow.{pow-pos, shl-exact, shr-shr, mod-pow-add, ones-split, high, ones-lt}
-use Rattle.model.specs.Base.{sum}
+use Rattle.base.specs.Base.{sum}
 use Rattle.model.specs.Banks.{onesBelow}
 
 -- what is shown of 0 and of 1 holds of every digit

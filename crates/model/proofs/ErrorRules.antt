@@ -6,7 +6,7 @@ use Prim.Native.Nat.{ℕ, _+_, _-_, _≤_, _<_, min}
 use native.Mathlib.Omega.{arith}
 use lib.Dec.{eqb, ltb, leb}
 use borrow.Author.Tests.{eqb-true, eqb-false, ltb-true, ltb-false, leb-true, leb-false, le-leb, lt-leb, lt-ltb, le-ltb, not-true}
-use Rattle.model.specs.Base.{pick, bit, bits}
+use Rattle.base.specs.Base.{pick, bit, bits}
 use Rattle.model.specs.Queue.{isNobody}
 use Rattle.model.specs.Control.{ewgf, epvf, boff, idleErrors, recovers, idleCounts, idled, counted, entered, ticked, woken, outcomeErrors, receivedErrors, recPlus, receiveErrorCounters, errorsChanged, controlReset, esrWritten}
 use Rattle.model.specs.Registers.{registerAt, reset, written, isFree}
@@ -23,7 +23,7 @@ use Rattle.model.specs.declared.Core.{Core}
 use Rattle.model.specs.declared.Controller.{Controller}
 use Rattle.model.specs.declared.Step as steps
 use Rattle.model.specs.declared.Step.the-variants.{Reset, Read, Write, Idle, BitTimes, Activity, Start, Outcome, Receive, ReceiveError}
-use Rattle.model.proofs.Choices.{pick-cases, or-l, or-r, and-l, and-r, refused-if, refused-unless}
+use Rattle.base.proofs.Choices.{pick-cases, or-l, or-r, and-l, and-r, refused-if, refused-unless}
 use Rattle.model.proofs.Reached.{step-in-range}
 use Rattle.model.proofs.ShownWords.{msr-shown, ier-shown, esr-shown, msr-erri, esr-ewgf, esr-epvf, esr-lec, esr-tec, esr-rec}
 use Rattle.model.proofs.WriteTargets.{control-written, errors-written, flags-written}

@@ -29,7 +29,7 @@ use Rattle.model.specs.declared.Frame.{Frame}
 use Rattle.model.specs.declared.MailboxState.{MailboxState}
 use Rattle.model.specs.declared.Acceptance.{Acceptance}
 use Rattle.model.specs.declared.Core.{Core}
-use Rattle.model.proofs.Choices.{pick-cases, and-l, and-r}
+use Rattle.base.proofs.Choices.{pick-cases, and-l, and-r}
 use Rattle.model.proofs.Follows.{first-carried}
 use Rattle.model.proofs.ReceiveErrors.{receive-error-code, receive-error-step}
 use Rattle.model.proofs.ControlRanges.{settled-range, settled-recovery-range, idled-range, idled-recovery-range, idle-errors-range, ticked-range, woken-range, errors-changed-range, errors-changed-recovery-range, outcome-errors-range, received-errors-range, receive-error-counters-range}

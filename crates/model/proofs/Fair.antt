@@ -5,7 +5,7 @@ use mathlib.Core.List.{List, [], _∷_, _++_}
 use mathlib.Core.Logic.{_⊎_, inl, inr}
 use Prim.Native.Nat.{ℕ, _≤_, _+_}
 use native.Mathlib.Omega.{arith}
-use Rattle.model.specs.Base.{one}
+use Rattle.base.specs.Base.{one}
 use Rattle.model.specs.Queue.{flag, holds, joined}
 use Rattle.model.specs.Control.{txfp, controlReset}
 use Rattle.model.specs.Registers.{reset, registerAt, controlRegister}
@@ -21,7 +21,7 @@ use Rattle.model.specs.declared.RequestOrder.{RequestOrder}
 use Rattle.model.specs.declared.Controller.{Controller}
 use Rattle.model.specs.declared.Step as steps
 use Rattle.model.specs.declared.Step.the-variants.{Read}
-use Rattle.model.proofs.Choices.{Is, Not, Is-not, and-l, and-r}
+use Rattle.base.proofs.Choices.{Is, Not, Is-not, and-l, and-r}
 use Rattle.model.proofs.Orders.{ahead, ahead-two, flag-out, holds-joined, last-joined}
 use Rattle.model.proofs.Views.{View, viewNext, Granted, Sound, requestsOf, requests-follow, sound-next, Waits, inFront, Turn, over, on, turn}
 use Rattle.model.proofs.Follows.{viewOf, follows}

@@ -6,7 +6,7 @@ use native.Mathlib.Omega.{arith}
 use native.Mathlib.Nat.{mod-le, mod-mod}
 use lib.Dec.{eqb, ltb, leb}
 use borrow.Author.Tests.{eqb-true, eqb-false, ltb-false, not-false}
-use Rattle.model.specs.Base.{pick, bit, bits}
+use Rattle.base.specs.Base.{pick, bit, bits}
 use Rattle.model.specs.Mailboxes.{sentIdentifier}
 use Rattle.model.specs.Reception.{malformed, dataBytes, bytesKept, storedFrame, noFrame, emptyFifo, pushed, goesInto, fmiOf, received, released, cleared, rfrWritten}
 use Rattle.model.specs.Registers.{bankCount}
@@ -19,7 +19,7 @@ use Rattle.model.specs.declared.FilterNumber.{FilterNumber}
 use Rattle.model.specs.declared.MailboxState.{MailboxState}
 use Rattle.model.specs.declared.Acceptance.{Acceptance}
 use Rattle.model.specs.declared.Acceptance.the-variants.{Into, Rejected}
-use Rattle.model.proofs.Choices.{pick-cases, or-l, or-r, opposed}
+use Rattle.base.proofs.Choices.{pick-cases, or-l, or-r, opposed}
 use Rattle.model.proofs.Masks.{field, lowest}
 
 -- ---- identifiers

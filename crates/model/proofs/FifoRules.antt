@@ -6,7 +6,7 @@ use Prim.Native.Nat.{ℕ, zero, suc, _+_, _-_, _*_, _/_, _%_, _^_, _≤_, _<_, m
 use native.Mathlib.Omega.{arith}
 use lib.Dec.{eqb, ltb, leb}
 use borrow.Author.Tests.{eqb-true, eqb-false, ne-eqb, ltb-true, ltb-false, leb-true, leb-false, lt-ltb, le-ltb}
-use Rattle.model.specs.Base.{pick, bit, bits, one}
+use Rattle.base.specs.Base.{pick, bit, bits, one}
 use Rattle.model.specs.Queue.{holds}
 use Rattle.model.specs.Mailboxes.{at, tdtMasked, sentIdentifier, tiWord}
 use Rattle.model.specs.Search.{acceptance}
@@ -35,7 +35,7 @@ use Rattle.model.specs.declared.Core.{Core}
 use Rattle.model.specs.declared.Controller.{Controller}
 use Rattle.model.specs.declared.Step as steps
 use Rattle.model.specs.declared.Step.the-variants.{Reset, Read, Write, Idle, BitTimes, Activity, Start, Outcome, Receive, ReceiveError}
-use Rattle.model.proofs.Choices.{one-le, pick-cases, refused-if, opposed}
+use Rattle.base.proofs.Choices.{one-le, pick-cases, refused-if, opposed}
 use Rattle.model.proofs.Masks.{field}
 use Rattle.model.proofs.FilterNumbers.{fmi-small}
 use Rattle.model.proofs.FifoRanges.{well-formed-length, sent-range, fmi-of-range}

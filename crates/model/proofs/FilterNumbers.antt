@@ -9,7 +9,7 @@ use native.Mathlib.Nat.{add-zero, le-antisymm}
 use native.Mathlib.Numerals.{add-one}
 use native.Mathlib.Omega.{arith}
 use borrow.Author.Tests.{lt-ltb, le-ltb}
-use Rattle.model.specs.Base.{pick, sum}
+use Rattle.base.specs.Base.{pick, sum}
 use Rattle.model.specs.Banks.{bank, filterNumber, classOf, width, belongs, share, numbersBelow, banksBelow, firstNumber, numberOf}
 use Rattle.model.specs.Search.{acceptance}
 use Rattle.model.specs.Filtering.{withActive, Numbers}

@@ -9,7 +9,7 @@ use lib.Bits.{bitAnd}
 use lib.Dec.{eqb, ltb}
 use lib.Pow.{shr-shr}
 use lib.Pow as pow
-use Rattle.model.specs.Base.{bit, bits}
+use Rattle.base.specs.Base.{bit, bits}
 use Rattle.model.specs.Banks.{rank, shortWord, matches}
 use Rattle.model.specs.Mailboxes.{sentIdentifier}
 use Rattle.model.specs.Reception.{malformed, sentFrame}
@@ -18,7 +18,7 @@ use Rattle.model.specs.declared.Frame.{Frame}
 use Rattle.model.specs.declared.MailboxState.{MailboxState}
 use Rattle.model.specs.declared.FilterClass.{FilterClass}
 use Rattle.model.specs.declared.FilterClass.the-variants.{List32, Mask32, List16, Mask16}
-use Rattle.model.proofs.Choices.{or-l, or-r}
+use Rattle.base.proofs.Choices.{or-l, or-r}
 use Rattle.model.proofs.Digits.{for-digit, and-digit, same-digits}
 use Rattle.model.proofs.FirstHit.{filter-within}
 use Rattle.model.proofs.Masks.{field, lowest}

@@ -11,7 +11,7 @@ use native.Mathlib.Omega.{arith}
 use borrow.Author.Tests.{ltb-true, ltb-false}
 use lib.Dec.{ltb}
 use lib.ListN.{length}
-use Rattle.model.specs.Base.{pick}
+use Rattle.base.specs.Base.{pick}
 use Rattle.model.specs.Banks.{firstWord, secondWord, width, filters, wordFor, takenAt, matches, numberOf}
 use Rattle.model.specs.Banks as banks
 use Rattle.model.specs.Search.{first, searched, tried, hitAt}

@@ -6,7 +6,7 @@ use Prim.Native.Nat.{ℕ, _-_, _/_, _%_, _^_}
 use native.Mathlib.Omega.{arith}
 use lib.Dec.{ltb, eqb}
 use borrow.Author.Tests.{eqb-true}
-use Rattle.model.specs.Base.{pick, bit}
+use Rattle.base.specs.Base.{pick, bit}
 use Rattle.model.specs.Queue.{number, numbered, senderNumber, same, holds, oldest, isFrom, isNobody, isEmpty, requested}
 use Rattle.model.specs.Mailboxes.{firstInWireOrder, sooner, before, first, firstOf, identifiers, requestedBy, tsrWritten, started, ended, over}
 use Rattle.model.specs.Control.{nart, txfp, awum, silm, lbkm, isNormal, boff, mcrMasked, sleepCleared, entered, counted, idled, ticked, woken, errorsChanged, controlReset, masterReset, mcrWritten, msrWritten, ierWritten, btrWritten}
@@ -32,7 +32,7 @@ use Rattle.model.specs.declared.Register.{Register}
 use Rattle.model.specs.declared.Register.the-variants.{Mcr, Msr, Tsr, Rfr, Ier, Esr, Btr, Ti, Tdt, Tdl, Tdh, Ri, Rdt, Rdl, Rdh, Fmr, Fm1r, Fs1r, Ffa1r, Fa1r, R1, R2, Absent}
 use Rattle.model.specs.declared.Step as steps
 use Rattle.model.specs.declared.Step.the-variants.{Reset, Read, Write, Idle, BitTimes, Activity, Start, Outcome, Receive, ReceiveError}
-use Rattle.model.proofs.Choices.{Is, Not, and-l, and-r, Is-not, not-Is, pick-cases}
+use Rattle.base.proofs.Choices.{Is, Not, and-l, and-r, Is-not, not-Is, pick-cases}
 use Rattle.model.proofs.Orders.{oldest-held, each, each-mailbox}
 use Rattle.model.proofs.Views.{View, viewNext, Granted, MayStart, offView}
 

@@ -5,7 +5,7 @@ use mathlib.Core.List.{List, [], _∷_}
 use Prim.Native.Nat.{ℕ, zero, suc, _+_, _*_, _/_, _%_}
 use native.Mathlib.Omega.{arith}
 use lib.ListN.{length, getD}
-use Rattle.model.specs.Base.{bits, one}
+use Rattle.base.specs.Base.{bits, one}
 use Rattle.model.specs.Queue.{holds}
 use Rattle.model.specs.Mailboxes.{at, sentIdentifier}
 use Rattle.model.specs.Search.{acceptance}

@@ -7,7 +7,7 @@ use native.Mathlib.Omega.{arith}
 use lib.Dec.{eqb}
 use lib.ListN.{length, take, drop, take-append-drop}
 use borrow.Author.Tests.{eqb-true, ne-eqb}
-use Rattle.model.specs.Base.{pick}
+use Rattle.base.specs.Base.{pick}
 use Rattle.model.specs.Registers.{reset}
 use Rattle.model.specs.Step.{linesOf}
 use Rattle.model.specs.Reachable.{InRange}
@@ -17,7 +17,7 @@ use Rattle.model.specs.Records.{Bytes, opening, bytesOf, fieldBytes}
 use Rattle.model.specs.Lesson.{sameBytes, opens, lessonAt, endsWith, lessonStops, lessonReplay, Opening, LessonCodes, LessonReplays}
 use Rattle.model.specs.declared.Controller.{Controller}
 use Rattle.model.specs.declared.Replayed.{Replayed}
-use Rattle.model.proofs.Choices.{and-l, and-r, pick-cases}
+use Rattle.base.proofs.Choices.{and-l, and-r, pick-cases}
 use Rattle.model.proofs.Readings.{same-state, overwrites, reply-fits, record-codes}
 use Rattle.model.proofs.Recorded.{bytes-drop}
 use Rattle.model.proofs.Replays.{replays}

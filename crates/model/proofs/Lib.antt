@@ -1,5 +1,4 @@
 pub mod Spaces
-pub mod Choices
 pub mod Bounded
 pub mod Orders
 pub mod ReadFields

@@ -4,7 +4,7 @@ use mathlib.Core.Path.{_≡_, refl, _∙_}
 use Prim.Native.Nat.{ℕ, _+_, _*_, _≤_, _<_}
 use native.Mathlib.Omega.{arith}
 use lib.Dec.{eqb}
-use Rattle.model.specs.Base.{bit, bits, one}
+use Rattle.base.specs.Base.{bit, bits, one}
 use Rattle.model.specs.Control.{statusLine}
 use Rattle.model.specs.Reception.{fifoLine}
 use Rattle.model.specs.Registers.{isFree, fifoOf}
@@ -18,7 +18,7 @@ use Rattle.model.specs.declared.Fifo.the-variants.{F0, F1}
 use Rattle.model.specs.declared.Core.{Core}
 use Rattle.model.specs.declared.Controller.{Controller}
 use Rattle.model.specs.declared.Step as steps
-use Rattle.model.proofs.Choices.{one-le}
+use Rattle.base.proofs.Choices.{one-le}
 use Rattle.model.proofs.Reached.{step-in-range}
 use Rattle.model.proofs.ShownWords.{msr-shown, rfr-shown, ier-shown, flag-bit, msr-erri, msr-wkui, msr-slaki, rfr-fmp, rfr-full, rfr-fovr}
 use Rattle.model.proofs.StatusWord.{flags-shown}

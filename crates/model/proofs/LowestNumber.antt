@@ -8,7 +8,7 @@ use native.Mathlib.Decide.{le-ind}
 use native.Mathlib.Omega.{arith}
 use borrow.Author.Tests.{lt-ltb, eq-eqb, eqb-true}
 use lib.Dec.{eqb}
-use Rattle.model.specs.Base.{pick, sum}
+use Rattle.base.specs.Base.{pick, sum}
 use Rattle.model.specs.Banks.{bank, firstWord, secondWord, isActive, classOf, rank, width, matches, belongs, share, firstNumber, numberOf}
 use Rattle.model.specs.Search.{searched, tried, hitAt, hitIn, firstHit}
 use Rattle.model.specs.Filtering.{ActiveMatch}

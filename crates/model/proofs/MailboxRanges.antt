@@ -5,7 +5,7 @@ use Prim.Native.Nat.{ℕ, _+_, _*_, _/_, _%_, _^_, _<_, _≤_}
 use native.Mathlib.Omega.{arith}
 use lib.Dec.{eqb}
 use borrow.Author.Tests.{eqb-true}
-use Rattle.model.specs.Base.{pick, bit, one}
+use Rattle.base.specs.Base.{pick, bit, one}
 use Rattle.model.specs.Queue.{same, flag, holds, joined, without, isNobody, requested, aborted, abortedAll, offWire}
 use Rattle.model.specs.Mailboxes.{at, put, withWords, withFlags, emptyMailbox, tdtMasked, tiWritten, tdtWritten, tdlWritten, tdhWritten, withMailbox, requestedBy, cleared, completed, abortsPending, abrq, tsrWritten, dropped, started, over, outcomeFlags, ended}
 use Rattle.model.specs.Reachable.{QueueRange, MailboxRange, TransmitRange}
@@ -17,7 +17,7 @@ use Rattle.model.specs.declared.Queue.{Queue}
 use Rattle.model.specs.declared.MailboxState.{MailboxState}
 use Rattle.model.specs.declared.Mailboxes.{Mailboxes}
 use Rattle.model.specs.declared.Transmit.{Transmit}
-use Rattle.model.proofs.Choices.{pick-cases, and-l, and-r, or-r, opposed, Is-not}
+use Rattle.base.proofs.Choices.{pick-cases, and-l, and-r, or-r, opposed, Is-not}
 use Rattle.model.proofs.Orders.{gone-without, held-before-without, held-before-joined}
 use Rattle.model.proofs.Masks.{tdt-masked, tdt-timed}
 use Rattle.model.proofs.QueueRanges.{aborted-range, aborted-wire, held-before-aborted, kept-not-aborted, no-requests-range, aborted-all-range, requested-range, sending-range, off-wire-range}

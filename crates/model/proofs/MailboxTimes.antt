@@ -6,7 +6,7 @@ use Prim.Native.Nat.{ℕ, _+_, _*_, _/_, _%_, _^_, _<_}
 use native.Mathlib.Omega.{arith}
 use lib.Dec.{eqb}
 use borrow.Author.Tests.{eqb-true}
-use Rattle.model.specs.Base.{pick, bits}
+use Rattle.base.specs.Base.{pick, bits}
 use Rattle.model.specs.Queue.{number, isNobody, senderNumber}
 use Rattle.model.specs.Mailboxes.{at, put, tdtMasked, tdtWritten, firstOf, identifiers, started, outcomeFlags, ended}
 use Rattle.model.specs.Control.{txfp, controlReset}
@@ -27,7 +27,7 @@ use Rattle.model.specs.declared.Controller.{Controller}
 use Rattle.model.specs.declared.Register.the-variants.{Tdt}
 use Rattle.model.specs.declared.Step as steps
 use Rattle.model.specs.declared.Step.the-variants.{Reset, Read, Write, Idle, BitTimes, Activity, Start, Outcome, Receive, ReceiveError}
-use Rattle.model.proofs.Choices.{Not}
+use Rattle.base.proofs.Choices.{Not}
 use Rattle.model.proofs.Follows.{Startable, startable, start-accepted}
 use Rattle.model.proofs.Mapped.{map}
 use Rattle.model.proofs.RegisterAccess.{first-somebody}

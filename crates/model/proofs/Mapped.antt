@@ -5,7 +5,7 @@ use Prim.Native.Nat.{ℕ, _+_, _*_, _-_, _/_, _%_, _<_, _≤_}
 use native.Mathlib.Omega.{arith}
 use lib.Dec.{eqb, ltb}
 use borrow.Author.Tests.{eqb-true, eqb-false, ltb-true, ltb-false, eq-eqb, ne-eqb, lt-ltb, le-ltb, le-leb, lt-leb}
-use Rattle.model.specs.Base.{pick}
+use Rattle.base.specs.Base.{pick}
 use Rattle.model.specs.Banks.{bank}
 use Rattle.model.specs.Registers.{registerAt, controlRegister, mailboxRegister, outputRegister, blockRegister, bankRegister, filterRegister, bankCount, isAbsent}
 use Rattle.model.specs.Codes.{offsetOf, inMap, IsPresent, Map}
@@ -14,7 +14,7 @@ use Rattle.model.specs.declared.Fifo.the-variants.{F0, F1}
 use Rattle.model.specs.declared.Bank.{Bank}
 use Rattle.model.specs.declared.Register.{Register}
 use Rattle.model.specs.declared.Register.the-variants.{Mcr, Msr, Tsr, Rfr, Ier, Esr, Btr, Ti, Tdt, Tdl, Tdh, Ri, Rdt, Rdl, Rdh, Fmr, Fm1r, Fs1r, Ffa1r, Fa1r, R1, R2, Absent}
-use Rattle.model.proofs.Choices.{Is, imp, imp-Is, and-l, and-r, beq-eq, not-Is}
+use Rattle.base.proofs.Choices.{Is, imp, imp-Is, and-l, and-r, beq-eq, not-Is}
 use Rattle.model.proofs.Bounded.{allBelow, each-below}
 
 -- below the banks: computed for each offset

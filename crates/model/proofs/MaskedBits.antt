@@ -7,7 +7,7 @@ use lib.Dec.{eqb, ltb}
 use lib.Bits.{and-mask}
 use lib.Pow.{shr-shr, high, low, field, mod-mod-pow}
 use borrow.Author.Tests.{ltb-true, ltb-false}
-use Rattle.model.specs.Base.{bit, bits}
+use Rattle.base.specs.Base.{bit, bits}
 use Rattle.model.specs.Control.{mcrMasked, ierMasked, btrMasked}
 use Rattle.model.specs.Mailboxes.{tdtMasked}
 use Rattle.model.specs.Registers.{filterMasked}

@@ -5,11 +5,11 @@ use native.Mathlib.Omega.{arith}
 use native.Mathlib.Nat.{mul-add-div-right, div-eq-of-lt, mul-add-mod-self-right, mod-eq-of-lt, add-zero}
 use lib.Dec.{eqb}
 use borrow.Author.Tests.{eqb-true}
-use Rattle.model.specs.Base.{bit, bits}
+use Rattle.base.specs.Base.{bit, bits}
 use Rattle.model.specs.Control.{mcrMasked, ierMasked, btrMasked, sleepCleared}
 use Rattle.model.specs.Mailboxes.{tdtMasked}
 use Rattle.model.specs.Registers.{filterMasked}
-use Rattle.model.proofs.Choices.{pick-cases}
+use Rattle.base.proofs.Choices.{pick-cases}
 
 -- ---- the parts of a word that is a sum
 

@@ -6,7 +6,7 @@ use Prim.Native.Nat.{ℕ, _+_, _-_, _*_, _/_, _%_, _^_, _<_}
 use native.Mathlib.Omega.{arith}
 use lib.Dec.{eqb}
 use borrow.Author.Tests.{eqb-true, eqb-false, not-true}
-use Rattle.model.specs.Base.{pick, bit, bits, one}
+use Rattle.base.specs.Base.{pick, bit, bits, one}
 use Rattle.model.specs.Queue.{isNobody, isEmpty, offWire}
 use Rattle.model.specs.Mailboxes.{identifiers, first, firstInWireOrder, firstOf, ended, over, started}
 use Rattle.model.specs.Control.{inrq, sleep, txfp, nart, awum, ttcm, isSleep, isNormal, modeBits, modeNext, idleMode, idled, counted, entered, ticked, woken, errorsChanged, controlReset, masterReset, mcrWritten, msrWritten, ierWritten, btrWritten, sleepCleared}
@@ -29,7 +29,7 @@ use Rattle.model.specs.declared.Core.{Core}
 use Rattle.model.specs.declared.Controller.{Controller}
 use Rattle.model.specs.declared.Step as steps
 use Rattle.model.specs.declared.Step.the-variants.{Reset, Read, Write, Idle, BitTimes, Activity, Start, Outcome, Receive, ReceiveError}
-use Rattle.model.proofs.Choices.{pick-cases, and-l, and-r, refused-unless, opposed}
+use Rattle.base.proofs.Choices.{pick-cases, and-l, and-r, refused-unless, opposed}
 use Rattle.model.proofs.Masks.{lowest, ttcm-masked}
 use Rattle.model.proofs.Reached.{step-in-range}
 use Rattle.model.proofs.ShownWords.{mcr-shown, msr-shown, ier-shown, msr-mode, msr-wkui, msr-slaki, msr-rest, mode-bits-small}

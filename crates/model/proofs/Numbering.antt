@@ -6,7 +6,7 @@ use native.Mathlib.Omega.{arith}
 use borrow.Author.Tests.{ltb-true}
 use lib.Dec.{eqb, ltb}
 use lib.Bits.{bitAnd}
-use Rattle.model.specs.Base.{pick, bit, sum}
+use Rattle.base.specs.Base.{pick, bit, sum}
 use Rattle.model.specs.Banks.{bank, filterNumber, classBy, classOf, width, belongs, own, share, numbersBelow, banksBelow, firstNumber, fourCounts}
 use Rattle.model.specs.declared.Filters.{Filters}
 use Rattle.model.specs.declared.Bank.{Bank}

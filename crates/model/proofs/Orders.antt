@@ -4,7 +4,7 @@ use mathlib.Core.Path.{_≡_, refl}
 use Prim.Native.Nat.{ℕ, suc, _≤_}
 use lib.Dec.{leb, eqb}
 use borrow.Author.Tests.{leb-true, eqb-true}
-use Rattle.model.specs.Base.{pick}
+use Rattle.base.specs.Base.{pick}
 use Rattle.model.specs.Queue.{same, flag, flagged, holds, joined, without, oldest, isFrom}
 use Rattle.model.specs.Reachable.{distinct}
 use Rattle.model.specs.declared.Mailbox.{Mailbox}
@@ -12,7 +12,7 @@ use Rattle.model.specs.declared.Mailbox.the-variants.{M0, M1, M2}
 use Rattle.model.specs.declared.RequestOrder.{RequestOrder}
 use Rattle.model.specs.declared.RequestOrder.the-variants.{Empty, One, Two, Three}
 use Rattle.model.specs.declared.MailboxBits.{MailboxBits}
-use Rattle.model.proofs.Choices.{Is, Not, imp, imp-Is, not-Is, and-l, and-r, beq-eq}
+use Rattle.base.proofs.Choices.{Is, Not, imp, imp-Is, not-Is, and-l, and-r, beq-eq}
 
 -- a test that holds at each mailbox, at each order
 abbrev pub mailboxes : (Mailbox → Bool) → Bool

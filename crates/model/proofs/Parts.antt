@@ -9,7 +9,7 @@ use lib.Dec.{eqb, ltb}
 use lib.ListN.{length, take, drop, length-append, length-drop, List·getD-append}
 use lib.Seq.{take-append-le, drop-append-le, drop-drop, getD-drop}
 use borrow.Author.Tests.{ltb-false, leb-true, leb-false, le-ltb, le-leb, lt-leb}
-use Rattle.model.specs.Base.{pick}
+use Rattle.base.specs.Base.{pick}
 use Rattle.model.specs.Script.{byteAt, number16, bodyLength, decoded, part, reading, stepsBy, stepsFrom, stepsOf}
 use Rattle.model.specs.Scripts.{isEnd, headerShort, tagUnknown, lengthWrong, bodyShort, behind, stepAt, placeBy, placeAfter}
 use Rattle.model.specs.declared.Reading.{Reading}

@@ -9,7 +9,7 @@ use lib.Dec.{eqb, ltb}
 use lib.ListN.{length, take, drop, length-append, length-drop}
 use lib.Seq.{take-all, take-at, take-append-add, drop-append-le}
 use borrow.Author.Tests.{ltb-true, le-ltb, eqb-true}
-use Rattle.model.specs.Base.{pick}
+use Rattle.base.specs.Base.{pick}
 use Rattle.model.specs.Step.{step}
 use Rattle.model.specs.Requests.{after}
 use Rattle.model.specs.Script.{byteAt, total, bodyLength, reading, reply, replayed, recordAt, replyOf, stops, Progress, replay, stepsBy, stepsFrom, stepsOf, repliesTo}
@@ -19,7 +19,7 @@ use Rattle.model.specs.declared.Reading.{Reading}
 use Rattle.model.specs.declared.Reading.the-variants.{End, Malformed, Found}
 use Rattle.model.specs.declared.Replayed.{Replayed}
 use Rattle.model.specs.declared.Step as steps
-use Rattle.model.proofs.Choices.{and-r, pick-cases}
+use Rattle.base.proofs.Choices.{and-r, pick-cases}
 use Rattle.model.proofs.Fair.{after-append}
 use Rattle.model.proofs.Readings.{code-small, record-codes, Look, over, short, unknown, wrong, whole, look}
 use Rattle.model.proofs.Replays.{steps-on, place-within, own-goes, replays}

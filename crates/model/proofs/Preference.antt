@@ -9,7 +9,7 @@ use native.Mathlib.Nat.{eq-or-lt-of-le}
 use native.Mathlib.Omega.{arith}
 use borrow.Author.Tests.{ltb-true, ltb-false}
 use lib.Dec.{ltb}
-use Rattle.model.specs.Base.{pick}
+use Rattle.base.specs.Base.{pick}
 use Rattle.model.specs.Banks.{filterNumber}
 use Rattle.model.specs.Search.{better, orNext, chosen}
 use Rattle.model.specs.Filtering.{NumberNoLater, NoLater}

@@ -1,7 +1,7 @@
 -- Requests and mailboxes stay in their ranges.
 use mathlib.Core.Bool.{Bool, true, false, not, _&&_, false≢true}
 use mathlib.Core.Path.{_≡_, refl, sym, ap, _∙_}
-use Rattle.model.specs.Base.{pick}
+use Rattle.base.specs.Base.{pick}
 use Rattle.model.specs.Queue.{same, flag, flagged, holds, isFrom, isNobody, noRequests, requested, emptied, remembered, aborted, abortedAll, sending, offWire}
 use Rattle.model.specs.Mailboxes.{abortsPending}
 use Rattle.model.specs.Reachable.{distinct, QueueRange}
@@ -11,7 +11,7 @@ use Rattle.model.specs.declared.Sender.{Sender}
 use Rattle.model.specs.declared.Sender.the-variants.{Nobody, From}
 use Rattle.model.specs.declared.MailboxBits.{MailboxBits}
 use Rattle.model.specs.declared.Queue.{Queue}
-use Rattle.model.proofs.Choices.{pick-cases, opposed, Is-not}
+use Rattle.base.proofs.Choices.{pick-cases, opposed, Is-not}
 use Rattle.model.proofs.Orders.{distinct-without, distinct-joined, gone-without, held-before-without}
 use Rattle.model.proofs.Views.{carried-without, carried-joined}
 

@@ -21,7 +21,7 @@ use Rattle.model.specs.declared.Core.{Core}
 use Rattle.model.specs.declared.Controller.{Controller}
 use Rattle.model.specs.declared.Step.{Step}
 use Rattle.model.specs.declared.Step.the-variants.{Reset, Read, Write, Idle, BitTimes, Activity, Start, Outcome, Receive, ReceiveError}
-use Rattle.model.proofs.Choices.{pick-cases, refused-if, refused-unless}
+use Rattle.base.proofs.Choices.{pick-cases, refused-if, refused-unless}
 use Rattle.model.proofs.QueueRanges.{no-requests-range}
 use Rattle.model.proofs.MailboxRanges.{empty-mailbox-range}
 use Rattle.model.proofs.FilterNumbers.{fmi-small}

@@ -2,7 +2,7 @@
 use mathlib.Core.Bool.{Bool, true, false, not, _&&_, _||_, Bool·beq, Bool·not-not}
 use mathlib.Core.Path.{_≡_, refl, ap, _∙_}
 use Prim.Native.Nat.{ℕ, _+_}
-use Rattle.model.specs.Base.{bit, one}
+use Rattle.base.specs.Base.{bit, one}
 use Rattle.model.specs.Queue.{holds, isEmpty}
 use Rattle.model.specs.Mailboxes.{tme}
 use Rattle.model.specs.Control.{isSleep, isInitialization, isNormal}
@@ -18,7 +18,7 @@ use Rattle.model.specs.declared.Mode.{Mode}
 use Rattle.model.specs.declared.Mode.the-variants.{Sleep, Initialization, Normal}
 use Rattle.model.specs.declared.Bank.{Bank}
 use Rattle.model.specs.declared.Controller.{Controller}
-use Rattle.model.proofs.Choices.{beq-eq}
+use Rattle.base.proofs.Choices.{beq-eq}
 use Rattle.model.proofs.Orders.{each-order}
 use Rattle.model.proofs.ShownWords.{msr-shown, esr-shown, btr-shown, fmr-shown, fa1r-shown, msr-inak, msr-slak, msr-txm, esr-boff}
 use Rattle.model.proofs.StatusWord.{flags-shown}

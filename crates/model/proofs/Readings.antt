@@ -8,7 +8,7 @@ use lib.Dec.{eqb, ltb, leb}
 use lib.ListN.{length, drop, length-append, length-drop}
 use lib.Seq.{take-append-seam, drop-append-seam}
 use borrow.Author.Tests.{ltb-false, leb-true, leb-false, lt-leb, le-leb, ne-eqb}
-use Rattle.model.specs.Base.{pick}
+use Rattle.base.specs.Base.{pick}
 use Rattle.model.specs.Step.{answered, step}
 use Rattle.model.specs.Script.{byteAt, bodyLength, reading, readingCode, reply, stayed, atEnd, passed, replayed, recordAt, replyOf, overwritten, stops}
 use Rattle.model.specs.Records.{stepNumbers, readingNumbers}
@@ -19,7 +19,7 @@ use Rattle.model.specs.declared.Reading.{Reading}
 use Rattle.model.specs.declared.Reading.the-variants.{End, Malformed, Found}
 use Rattle.model.specs.declared.Replayed.{Replayed}
 use Rattle.model.specs.declared.Step as steps
-use Rattle.model.proofs.Choices.{and-l, and-r, pick-cases}
+use Rattle.base.proofs.Choices.{and-l, and-r, pick-cases}
 use Rattle.model.proofs.Coded.{codes}
 
 -- ---- the codes of a step

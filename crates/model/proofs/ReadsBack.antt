@@ -7,7 +7,7 @@ use native.Mathlib.Omega.{arith}
 use lib.Dec.{eqb, ltb}
 use lib.ListN.{getD-replicate}
 use borrow.Author.Tests.{eqb-true, eqb-false, ne-eqb, ltb-true}
-use Rattle.model.specs.Base.{pick, bit, bits, one}
+use Rattle.base.specs.Base.{pick, bit, bits, one}
 use Rattle.model.specs.Control.{awum, sleepCleared, entered, idled, counted, ticked, woken, errorsChanged, masterReset, mcrWritten, msrWritten, ierWritten, btrWritten, mcrMasked, ierMasked, btrMasked}
 use Rattle.model.specs.Registers.{registerAt, isAbsent, reset, coreReset, written, writeRefusal, readWord, filterMasked, bankWord, bankCount}
 use Rattle.model.specs.Step.{step, answered, refusal, wordOf, applied, settled, storedBy, startedBy, endedBy}
@@ -25,7 +25,7 @@ use Rattle.model.specs.declared.Register.{Register}
 use Rattle.model.specs.declared.Register.the-variants.{Mcr, Msr, Tsr, Rfr, Ier, Esr, Btr, Ti, Tdt, Tdl, Tdh, Ri, Rdt, Rdl, Rdh, Fmr, Fm1r, Fs1r, Ffa1r, Fa1r, R1, R2, Absent}
 use Rattle.model.specs.declared.Step as steps
 use Rattle.model.specs.declared.Step.the-variants.{Reset, Read, Write, Idle, BitTimes, Activity, Start, Outcome, Receive, ReceiveError}
-use Rattle.model.proofs.Choices.{pick-cases, or-l, or-r}
+use Rattle.base.proofs.Choices.{pick-cases, or-l, or-r}
 use Rattle.model.proofs.Computed.{everything}
 use Rattle.model.proofs.MaskedBits.{next-bit, mcr-bits, ier-bits, btr-bits, filter-bits}
 use Rattle.model.proofs.RegisterAccess.{read-word, write-core, accepts, elsewhere, step-keeps}

@@ -6,7 +6,7 @@ use native.Mathlib.Omega.{arith}
 use lib.Dec.{eqb, leb}
 use borrow.Author.Tests.{eqb-true, leb-true}
 use Rattle.model.specs.Step.{receiveErrorInRange}
-use Rattle.model.proofs.Choices.{and-l, and-r}
+use Rattle.base.proofs.Choices.{and-l, and-r}
 
 pub receive-error-code : (k n : ℕ) → receiveErrorInRange k n ≡ true → k ≤ 7
 unfolding receiveErrorInRange

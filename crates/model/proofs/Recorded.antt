@@ -10,7 +10,7 @@ use lib.Dec.{eqb, leb}
 use lib.ListN.{length, take, drop, length-drop, take-append-drop, drop-of-length-le}
 use lib.Seq.{drop-append-seam, getD-drop, length-take-le, drop-cons, drop-length}
 use borrow.Author.Tests.{eq-eqb, le-ltb, lt-leb, ltb-false, leb-true, eqb-true, not-false}
-use Rattle.model.specs.Base.{pick}
+use Rattle.base.specs.Base.{pick}
 use Rattle.model.specs.Script.{byteAt, number16, isTag, bodyLength, stepOf, stepTag, stepValues, decoded, part, reading, stepsBy, stepsFrom, stepsOf, reply}
 use Rattle.model.specs.Scripts.{isEnd, headerShort, tagUnknown, lengthWrong, bodyShort, behind, stepAt}
 use Rattle.model.specs.Records.{bytesOf, numberOf, Bytes, Field, stepFields, FitWidths, fieldBytes, stepBody, recordOf, stepNumbers, readingNumbers, NumbersApart, Tags, RecordSays, IsRecord, RecordStands, scriptOf, AllFit, ScriptSays, sampleSteps, Samples, ReplySays}
@@ -18,7 +18,7 @@ use Rattle.model.specs.declared.Reading.{Reading}
 use Rattle.model.specs.declared.Reading.the-variants.{End, Malformed, Found}
 use Rattle.model.specs.declared.Step as steps
 use Rattle.model.specs.declared.Step.the-variants.{Reset, Read, Write, Idle, BitTimes, Activity, Start, Outcome, Receive, ReceiveError}
-use Rattle.model.proofs.Choices.{and-r}
+use Rattle.base.proofs.Choices.{and-r}
 use Rattle.model.proofs.Parts.{reading-shift, steps-rest}
 use Rattle.model.proofs.Replays.{steps-on}
 

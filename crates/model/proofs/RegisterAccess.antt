@@ -5,7 +5,7 @@ use Prim.Native.Nat.{ℕ}
 use native.Mathlib.Omega.{arith}
 use lib.Dec.{eqb}
 use borrow.Author.Tests.{eq-eqb, eqb-true}
-use Rattle.model.specs.Base.{pick}
+use Rattle.base.specs.Base.{pick}
 use Rattle.model.specs.Queue.{number, isEmpty}
 use Rattle.model.specs.Mailboxes.{identifiers, sooner, firstInWireOrder, first, firstOf, started}
 use Rattle.model.specs.Control.{txfp}
@@ -24,7 +24,7 @@ use Rattle.model.specs.declared.Controller.{Controller}
 use Rattle.model.specs.declared.Register.{Register}
 use Rattle.model.specs.declared.Step as steps
 use Rattle.model.specs.declared.Step.the-variants.{Start}
-use Rattle.model.proofs.Choices.{opposed, pick-cases}
+use Rattle.base.proofs.Choices.{opposed, pick-cases}
 use Rattle.model.proofs.Mapped.{map}
 use Rattle.model.proofs.Follows.{Startable, startable}
 

@@ -20,7 +20,7 @@ use Rattle.model.specs.declared.Replayed.{Replayed}
 use Rattle.model.specs.declared.Stepped.{Stepped}
 use Rattle.model.specs.declared.Replay as declared
 use Rattle.model.specs.declared.Step as steps
-use Rattle.model.proofs.Choices.{pick-cases}
+use Rattle.base.proofs.Choices.{pick-cases}
 use Rattle.model.proofs.Readings.{code-small, record-codes, stop-place, Look, over, short, unknown, wrong, whole, look}
 
 -- ---- rounds

@@ -4,7 +4,7 @@ use mathlib.Core.Path.{_≡_, refl, ap, _∙_}
 use Prim.Native.Nat.{ℕ, _+_, _*_, _/_, _%_, _^_, _≤_, _<_}
 use native.Mathlib.Omega.{arith}
 use lib.Dec.{eqb}
-use Rattle.model.specs.Base.{bit, bits, one}
+use Rattle.base.specs.Base.{bit, bits, one}
 use Rattle.model.specs.Queue.{holds}
 use Rattle.model.specs.Mailboxes.{at, tiWord}
 use Rattle.model.specs.Mailboxes as mailboxes
@@ -23,7 +23,7 @@ use Rattle.model.specs.declared.Errors.{Errors}
 use Rattle.model.specs.declared.FifoState.{FifoState}
 use Rattle.model.specs.declared.Mailbox.the-variants.{M0, M1, M2}
 use Rattle.model.specs.declared.Controller.{Controller}
-use Rattle.model.proofs.Choices.{one-le, one-bit}
+use Rattle.base.proofs.Choices.{one-le, one-bit}
 use Rattle.model.proofs.Masks.{field}
 
 -- ---- words

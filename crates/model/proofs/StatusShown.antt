@@ -20,7 +20,7 @@ use Rattle.model.specs.declared.RequestOrder.{RequestOrder}
 use Rattle.model.specs.declared.RequestOrder.the-variants.{Empty, One, Two, Three}
 use Rattle.model.specs.declared.Transmit.{Transmit}
 use Rattle.model.specs.declared.Controller.{Controller}
-use Rattle.model.proofs.Choices.{imp, imp-Is, Is-not, and-l, and-r}
+use Rattle.base.proofs.Choices.{imp, imp-Is, Is-not, and-l, and-r}
 use Rattle.model.proofs.Orders.{each-order, same-eq}
 use Rattle.model.proofs.StatusWord.{flags-shown, code-shown}
 use Rattle.model.proofs.Arbitrated.{each-of, has-order, same-self, last-somebody, is-last, last-unique, waiting-by}

@@ -7,7 +7,7 @@ use native.Mathlib.Omega.{arith}
 use lib.Dec.{eqb, ltb, leb}
 use lib.ListN.{length}
 use borrow.Author.Tests.{eqb-true, ltb-false}
-use Rattle.model.specs.Base.{pick, bit}
+use Rattle.base.specs.Base.{pick, bit}
 use Rattle.model.specs.Queue.{number, same, flag, flagged, holds, joined, without, isFrom, noFlags, requested, emptied, remembered, aborted, abortedAll, offWire, orderNumbers, senderNumbers}
 use Rattle.model.specs.Mailboxes.{at, tiWritten, tdtWritten, tdlWritten, tdhWritten, requestedBy, cleared, completed, tsrWritten, abrq, dropped, started, over, outcomeFlags, ended}
 use Rattle.model.specs.Control.{nart}
@@ -36,7 +36,7 @@ use Rattle.model.specs.declared.Register.{Register}
 use Rattle.model.specs.declared.Register.the-variants.{Mcr, Msr, Tsr, Rfr, Ier, Esr, Btr, Ti, Tdt, Tdl, Tdh, Ri, Rdt, Rdl, Rdh, Fmr, Fm1r, Fs1r, Ffa1r, Fa1r, R1, R2, Absent}
 use Rattle.model.specs.declared.Step as steps
 use Rattle.model.specs.declared.Step.the-variants.{Reset, Read, Write, Idle, BitTimes, Activity, Start, Outcome, Receive, ReceiveError}
-use Rattle.model.proofs.Choices.{imp, imp-Is, not-Is, and-l, and-r, or-l, or-r, beq-eq, opposed, pick-cases}
+use Rattle.base.proofs.Choices.{imp, imp-Is, not-Is, and-l, and-r, or-l, or-r, beq-eq, opposed, pick-cases}
 use Rattle.model.proofs.Bounded.{allBelow, each-below}
 use Rattle.model.proofs.Orders.{orders, mailboxes, each-order, each-mailbox, same-eq}
 use Rattle.model.proofs.QueueRanges.{aborted-range, aborted-wire, aborted-all-wire}

@@ -7,7 +7,7 @@ use native.Mathlib.Nat.{pow-suc}
 use native.Mathlib.Omega.{arith}
 use lib.ListN.{length}
 use borrow.Author.Tests.{eqb-true, eqb-false}
-use Rattle.model.specs.Base.{bit, bits, one}
+use Rattle.base.specs.Base.{bit, bits, one}
 use Rattle.model.specs.Queue.{number, senderNumber, flag, holds}
 use Rattle.model.specs.Mailboxes.{at, tme, low, code, tsrByte, tsr, lastOf}
 use Rattle.model.specs.Control.{txfp}
@@ -19,7 +19,7 @@ use Rattle.model.specs.declared.Sender.the-variants.{Nobody, From}
 use Rattle.model.specs.declared.Transmit.{Transmit}
 use Rattle.model.specs.declared.MailboxState.{MailboxState}
 use Rattle.model.specs.declared.Controller.{Controller}
-use Rattle.model.proofs.Choices.{one-le, one-bit, pick-cases}
+use Rattle.base.proofs.Choices.{one-le, one-bit, pick-cases}
 use Rattle.model.proofs.MaskedBits.{next-bit, no-bit}
 use Rattle.model.proofs.ShownWords.{tsr-shown}
 

@@ -5,7 +5,7 @@ use mathlib.Core.List.{List, [], _∷_}
 use Prim.Native.Nat.{ℕ, _+_, _%_, _<_}
 use native.Mathlib.Omega.{arith}
 use lib.Dec.{eqb}
-use Rattle.model.specs.Base.{pick, bit}
+use Rattle.base.specs.Base.{pick, bit}
 use Rattle.model.specs.Control.{ttcm, isNormal, idled, counted, entered, errorsChanged, ticked, woken, controlReset, masterReset, mcrWritten, msrWritten, ierWritten, btrWritten}
 use Rattle.model.specs.Registers.{registerAt, reset, coreReset, written, withControl}
 use Rattle.model.specs.Step.{step, answered, coreAfter, refusal, applied, settled, storedBy, startedBy, endedBy}
@@ -22,7 +22,7 @@ use Rattle.model.specs.declared.Register.{Register}
 use Rattle.model.specs.declared.Register.the-variants.{Mcr, Msr, Tsr, Rfr, Ier, Esr, Btr, Ti, Tdt, Tdl, Tdh, Ri, Rdt, Rdl, Rdh, Fmr, Fm1r, Fs1r, Ffa1r, Fa1r, R1, R2, Absent}
 use Rattle.model.specs.declared.Step as steps
 use Rattle.model.specs.declared.Step.the-variants.{Reset, Read, Write, Idle, BitTimes, Activity, Start, Outcome, Receive, ReceiveError}
-use Rattle.model.proofs.Choices.{Is, Not}
+use Rattle.base.proofs.Choices.{Is, Not}
 use Rattle.model.proofs.HistoryReads.{code-is}
 use Rattle.model.proofs.ShownWords.{mcr-shown}
 use Rattle.model.proofs.ReadFields.{normal-read}

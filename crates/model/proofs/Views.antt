@@ -5,7 +5,7 @@ use mathlib.Core.Path.{_≡_, refl, sym, subst, ap, _∙_}
 use Prim.Native.Nat.{_≤_, _+_}
 use native.Mathlib.Omega.{arith}
 use lib.Dec.{leb}
-use Rattle.model.specs.Base.{pick, one}
+use Rattle.base.specs.Base.{pick, one}
 use Rattle.model.specs.Queue.{same, flag, flagged, holds, joined, without, oldest, isFrom, isNobody, noRequests, requested, emptied, remembered, aborted, abortedAll, sending, freed, offWire}
 use Rattle.model.specs.Requests.{Event, nothing, drops, modes, accepts, aborts, starts, ends, Requests, next, closed, marked, abortSeen, endSeen}
 use Rattle.model.specs.Reachable.{distinct, carried}
@@ -17,7 +17,7 @@ use Rattle.model.specs.declared.Sender.the-variants.{Nobody, From}
 use Rattle.model.specs.declared.RequestOrder.{RequestOrder}
 use Rattle.model.specs.declared.Queue.{Queue}
 use Rattle.model.proofs.Orders.{ahead, outOf, flag-out, out-without, distinct-without, gone-without, out-joined, distinct-joined, still, nearer, one-nearer, kept-without, gone-stays, kept-joined, ahead-joined, oldest-first, same-eq, same-comm}
-use Rattle.model.proofs.Choices.{Is, Not, not-Is, pick-cases, pick-both, one-le}
+use Rattle.base.proofs.Choices.{Is, Not, not-Is, pick-cases, pick-both, one-le}
 
 -- what of a controller decides about its requests
 pub record View : Type 0 where

@@ -4,7 +4,7 @@ use mathlib.Core.Path.{_≡_, refl, sym, subst, ap, _∙_}
 use mathlib.Core.List.{List, [], _∷_}
 use Prim.Native.Nat.{ℕ, _+_, _*_, _/_}
 use lib.Dec.{eqb}
-use Rattle.model.specs.Base.{pick, bit}
+use Rattle.base.specs.Base.{pick, bit}
 use Rattle.model.specs.Mailboxes.{at}
 use Rattle.model.specs.Search.{acceptance}
 use Rattle.model.specs.Reception.{storedFrame, sentFrame, goesInto, fmiOf, received, rfrWritten, emptyFifo}

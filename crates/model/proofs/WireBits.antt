@@ -9,14 +9,14 @@ use native.Mathlib.Numerals.{one-add}
 use lib.Dec.{eqb, ltb, leb}
 use lib.Pow.{pow-pos, mod-pow-add, shr-shr, high, low}
 use borrow.Author.Tests.{eqb-true, eqb-false, ltb-true, ltb-false, leb-true, leb-false, eq-eqb, ne-eqb, lt-ltb, le-ltb}
-use Rattle.model.specs.Base.{pick, bit, bits, one}
+use Rattle.base.specs.Base.{pick, bit, bits, one}
 use Rattle.model.specs.Queue.{number}
 use Rattle.model.specs.Mailboxes.{wireKey, identifier, key, before, sentIdentifier}
 use Rattle.model.specs.Arbitration.{downTo, arbitration, wins, goesBefore, WireOrder, SentIdentifier}
 use Rattle.model.specs.declared.Mailbox.{Mailbox}
 use Rattle.model.specs.declared.Mailbox.the-variants.{M0, M1, M2}
 use Rattle.model.specs.declared.Identifiers.{Identifiers}
-use Rattle.model.proofs.Choices.{one-le}
+use Rattle.base.proofs.Choices.{one-le}
 use Rattle.model.proofs.Digits.{for-digit}
 use Rattle.model.proofs.MaskedBits.{bit-low, bit-high, next-bit, no-bit}
 

@@ -23,7 +23,7 @@ use Rattle.model.specs.declared.Register.{Register}
 use Rattle.model.specs.declared.Register.the-variants.{Mcr, Msr, Tsr, Rfr, Ier, Esr, Btr, Ti, Tdt, Tdl, Tdh, Ri, Rdt, Rdl, Rdh, Fmr, Fm1r, Fs1r, Ffa1r, Fa1r, R1, R2, Absent}
 use Rattle.model.specs.declared.Step as steps
 use Rattle.model.specs.declared.Step.the-variants.{Reset, Read, Write, Idle, BitTimes, Activity, Start, Outcome, Receive, ReceiveError}
-use Rattle.model.proofs.Choices.{one-le, pick-cases}
+use Rattle.base.proofs.Choices.{one-le, pick-cases}
 use Rattle.model.proofs.CoreRanges.{fifo-of-range}
 use Rattle.model.proofs.ShownWords.{mode-bits-small}
 use Rattle.model.proofs.StatusWord.{sender-small, status-small}

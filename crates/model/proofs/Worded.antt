@@ -4,7 +4,7 @@ use mathlib.Core.Path.{_≡_, refl, sym, subst, ap, _∙_}
 use Prim.Native.Nat.{ℕ, zero, suc, _+_, _≤_}
 use native.Mathlib.Omega.{arith}
 use lib.Dec.{eqb}
-use Rattle.model.specs.Base.{bit}
+use Rattle.base.specs.Base.{bit}
 use Rattle.model.specs.Queue.{number, numbered, isNobody}
 use Rattle.model.specs.Mailboxes.{firstOf}
 use Rattle.model.specs.Control.{txfp}
@@ -18,7 +18,7 @@ use Rattle.model.specs.declared.Step as steps
 use Rattle.model.specs.declared.Step.the-variants.{Reset, Read, Write, Idle, BitTimes, Activity, Start, Outcome, Receive, ReceiveError}
 use Rattle.model.proofs.ReadFields.{txm-read, tme-read}
 use Rattle.model.proofs.StatusWord.{sender-small}
-use Rattle.model.proofs.Choices.{pick-cases}
+use Rattle.base.proofs.Choices.{pick-cases}
 use Rattle.model.proofs.Views.{View, viewNext, Granted}
 use Rattle.model.proofs.Follows.{viewOf, follows}
 

@@ -6,7 +6,7 @@ use Prim.Native.Nat.{ℕ, suc, _+_, _*_, _/_, _%_, _^_, _<_}
 use native.Mathlib.Omega.{arith}
 use lib.Dec.{eqb}
 use borrow.Author.Tests.{eqb-true, eq-eqb}
-use Rattle.model.specs.Base.{bit, bits, one}
+use Rattle.base.specs.Base.{bit, bits, one}
 use Rattle.model.specs.Queue.{number, holds}
 use Rattle.model.specs.Mailboxes.{at, put, withWords, tiWritten, tdtWritten, tdlWritten, tdhWritten, tdtMasked, requestedBy, cleared, completed, tsrWritten, started, outcomeFlags, ended}
 use Rattle.model.specs.Registers.{registerAt, isAbsent, coreReset, written}
@@ -28,7 +28,7 @@ use Rattle.model.specs.declared.Register.{Register}
 use Rattle.model.specs.declared.Register.the-variants.{Mcr, Msr, Tsr, Rfr, Ier, Esr, Btr, Ti, Tdt, Tdl, Tdh, Ri, Rdt, Rdl, Rdh, Fmr, Fm1r, Fs1r, Ffa1r, Fa1r, R1, R2, Absent}
 use Rattle.model.specs.declared.Step as steps
 use Rattle.model.specs.declared.Step.the-variants.{Reset, Read, Write, Idle, BitTimes, Activity, Start, Outcome, Receive, ReceiveError}
-use Rattle.model.proofs.Choices.{pick-cases, and-l, and-r, opposed, one-le, one-bit}
+use Rattle.base.proofs.Choices.{pick-cases, and-l, and-r, opposed, one-le, one-bit}
 use Rattle.model.proofs.MaskedBits.{tdt-bits, next-bit}
 use Rattle.model.proofs.RegisterAccess.{write-core, elsewhere, step-keeps, Starts, start-accepted}
 use Rattle.model.proofs.StatusWord.{flags-shown}

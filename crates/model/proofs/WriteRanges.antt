@@ -5,7 +5,7 @@ use mathlib.Core.Path.{_≡_, refl}
 use Prim.Native.Nat.{ℕ, zero, suc, _+_, _*_, _^_, _<_}
 use lib.Dec.{ltb, eqb}
 use lib.ListN.{length, set, length-set}
-use Rattle.model.specs.Base.{bit}
+use Rattle.base.specs.Base.{bit}
 use Rattle.model.specs.Mailboxes.{requestedBy, tsrWritten, abrq}
 use Rattle.model.specs.Control.{isInitialization, masterReset, mcrWritten, msrWritten, ierWritten, btrWritten, esrWritten}
 use Rattle.model.specs.Reception.{rfrWritten}
@@ -16,7 +16,7 @@ use Rattle.model.specs.declared.Queue.{Queue}
 use Rattle.model.specs.declared.Core.{Core}
 use Rattle.model.specs.declared.Register.{Register}
 use Rattle.model.specs.declared.Register.the-variants.{Mcr, Msr, Tsr, Rfr, Ier, Esr, Btr, Ti, Tdt, Tdl, Tdh, Ri, Rdt, Rdl, Rdh, Fmr, Fm1r, Fs1r, Ffa1r, Fa1r, R1, R2, Absent}
-use Rattle.model.proofs.Choices.{pick-cases, opposed, refused-if, refused-unless}
+use Rattle.base.proofs.Choices.{pick-cases, opposed, refused-if, refused-unless}
 use Rattle.model.proofs.Masks.{filter-masked}
 use Rattle.model.proofs.ControlRanges.{not-normal, mcr-written-range, msr-written-range, ier-written-range, btr-written-range, master-reset-range, esr-written-range}
 use Rattle.model.proofs.MailboxRanges.{dropped-range, tsr-written-range, tdt-transmit-range, tdl-transmit-range, tdh-transmit-range, requested-by-range}

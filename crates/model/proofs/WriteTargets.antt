@@ -5,7 +5,7 @@ use Prim.Native.Nat.{ℕ, _+_, _*_}
 use native.Mathlib.Omega.{arith}
 use lib.Dec.{eqb, ltb}
 use borrow.Author.Tests.{eqb-true, eqb-false, eq-eqb}
-use Rattle.model.specs.Base.{pick, bit}
+use Rattle.base.specs.Base.{pick, bit}
 use Rattle.model.specs.Queue.{abortedAll}
 use Rattle.model.specs.Mailboxes.{requestedBy, tsrWritten}
 use Rattle.model.specs.Reception.{emptyFifo, rfrWritten}
@@ -22,7 +22,7 @@ use Rattle.model.specs.declared.Control.{Control}
 use Rattle.model.specs.declared.Core.{Core}
 use Rattle.model.specs.declared.Register.{Register}
 use Rattle.model.specs.declared.Register.the-variants.{Mcr, Msr, Tsr, Rfr, Ier, Esr, Btr, Ti, Tdt, Tdl, Tdh, Ri, Rdt, Rdl, Rdh, Fmr, Fm1r, Fs1r, Ffa1r, Fa1r, R1, R2, Absent}
-use Rattle.model.proofs.Choices.{pick-cases}
+use Rattle.base.proofs.Choices.{pick-cases}
 use Rattle.model.proofs.Mapped.{map}
 use Rattle.model.proofs.QueueRanges.{aborted-wire}
 

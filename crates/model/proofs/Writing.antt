@@ -9,7 +9,7 @@ use lib.Dec.{eqb, ltb}
 use lib.ListN.{length, take, drop, length-append, length-drop}
 use lib.Seq.{take-append-seam, take-all, take-add, drop-drop}
 use borrow.Author.Tests.{ltb-true, ltb-false, lt-ltb, le-ltb, eq-eqb}
-use Rattle.model.specs.Base.{pick}
+use Rattle.base.specs.Base.{pick}
 use Rattle.model.specs.Script.{bodyLength, stepTag, part, reading, stepsBy, stepsFrom, stepsOf, overwritten}
 use Rattle.model.specs.Records.{Bytes, Field, bytesOf, FitWidths, stepFields, stepNumbers, recordOf, IsRecord, scriptOf, AllFit}
 use Rattle.model.specs.Scripts.{placeBy, placeAfter}
@@ -21,7 +21,7 @@ use Rattle.model.specs.declared.Step as steps
 use Rattle.model.specs.declared.WideStep as wide
 use Rattle.model.specs.declared.WideStep.the-variants as wides
 use Rattle.model.specs.declared.Step.the-variants.{Reset, Read, Write, Idle, BitTimes, Activity, Start, Outcome, Receive, ReceiveError}
-use Rattle.model.proofs.Choices.{and-l, and-r, pick-both, pick-cases, refused-if, refused-unless}
+use Rattle.base.proofs.Choices.{and-l, and-r, pick-both, pick-cases, refused-if, refused-unless}
 use Rattle.model.proofs.Readings.{overwrites, Look, over, short, unknown, wrong, whole, look}
 use Rattle.model.proofs.Recorded.{tags, record-says, record-stands, script-says}
 use Rattle.model.proofs.FromAnywhere.{script-fit}

@@ -5,7 +5,7 @@ use mathlib.Core.List.{List, [], _∷_, _++_}
 use mathlib.Core.Path.{_≡_}
 use Prim.Native.Nat.{ℕ, zero, suc, _+_}
 use lib.Dec.{eqb, ltb, leb}
-use Rattle.model.specs.Base.{pick, bit}
+use Rattle.base.specs.Base.{pick, bit}
 use Rattle.model.specs.Queue.{number, orderNumbers, senderNumbers}
 use Rattle.model.specs.Mailboxes.{identifier, before, sentIdentifier}
 use Rattle.model.specs.Step.{step}

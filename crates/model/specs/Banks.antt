@@ -7,7 +7,7 @@ use lib.Dec.{eqb, ltb}
 use lib.Bits.{bitAnd}
 use lib.Count.{ones}
 use lib.ListN.{length, getD}
-use Rattle.model.specs.Base.{pick, bit, bits, sum}
+use Rattle.base.specs.Base.{pick, bit, bits, sum}
 use Rattle.model.specs.declared.Filters.{Filters}
 use Rattle.model.specs.declared.Bank.{Bank}
 use Rattle.model.specs.declared.FilterNumber.{FilterNumber}

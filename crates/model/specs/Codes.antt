@@ -4,7 +4,7 @@ use mathlib.Core.Bool.{Bool, true, false, not, _&&_, _||_}
 use mathlib.Core.Path.{_≡_}
 use Prim.Native.Nat.{ℕ, _+_, _*_, _%_, _≤_}
 use lib.Dec.{eqb, ltb, leb}
-use Rattle.model.specs.Base.{bit, bits}
+use Rattle.base.specs.Base.{bit, bits}
 use Rattle.model.specs.Queue.{number}
 use Rattle.model.specs.Registers.{registerAt, isAbsent, bankCount}
 use Rattle.model.specs.Step.{step, linesOf}

@@ -4,7 +4,7 @@ use mathlib.Core.Bool.{Bool, false, not, _&&_, _||_}
 use mathlib.Core.Path.{_≡_}
 use Prim.Native.Nat.{ℕ, _+_, _-_, _%_, min}
 use lib.Dec.{eqb, ltb, leb}
-use Rattle.model.specs.Base.{pick, bits}
+use Rattle.base.specs.Base.{pick, bits}
 use Rattle.model.specs.Shown.{esr, erri, ewgie, epvie, bofie, lecie, ewgf, epvf, boff, lec, rec, tec, Done, nextOf, writesOne, resets}
 use Rattle.model.specs.declared.Controller.{Controller}
 use Rattle.model.specs.declared.Step as steps

@@ -5,7 +5,7 @@ use mathlib.Core.List.{List, [], _∷_, _++_, map}
 use mathlib.Core.Path.{_≡_}
 use Prim.Native.Nat.{ℕ, _+_, _*_}
 use lib.ListN.{replicate}
-use Rattle.model.specs.Base.{bits, one}
+use Rattle.base.specs.Base.{bits, one}
 use Rattle.model.specs.Banks.{bank, firstNumber}
 use Rattle.model.specs.Registers.{reset, bankCount}
 use Rattle.model.specs.Step.{step}

@@ -6,7 +6,7 @@ use mathlib.Core.List.{List, [], _∷_}
 use mathlib.Core.Logic.{_⊎_, _↔_}
 use mathlib.Core.Path.{_≡_}
 use Prim.Native.Nat.{ℕ, _+_, _*_, _^_, _≤_, _<_}
-use Rattle.model.specs.Base.{bit, bits}
+use Rattle.base.specs.Base.{bit, bits}
 use Rattle.model.specs.Banks.{bank, firstWord, secondWord, isActive, classOf, rank, width, shortWord, matches, belongs, firstNumber, numberOf, banksBelow, fourCounts}
 use Rattle.model.specs.Search.{firstHit, acceptance}
 use Rattle.model.specs.Reception.{malformed, sentFrame}

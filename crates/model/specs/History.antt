@@ -7,7 +7,7 @@ use mathlib.Core.Path.{_≡_}
 use Prim.Native.Nat.{ℕ, zero, suc, _+_, _-_, _*_, _/_, _%_}
 use lib.Dec.{eqb, ltb}
 use lib.ListN.{length, take}
-use Rattle.model.specs.Base.{pick, bit, bits}
+use Rattle.base.specs.Base.{pick, bit, bits}
 use Rattle.model.specs.Queue.{number}
 use Rattle.model.specs.Mailboxes.{sentIdentifier}
 use Rattle.model.specs.Search.{acceptance}

@@ -4,7 +4,7 @@ use mathlib.Core.Bool.{not, _&&_, _||_}
 use mathlib.Core.Path.{_≡_}
 use Prim.Native.Nat.{ℕ, _+_, _*_, _<_}
 use lib.Dec.{eqb}
-use Rattle.model.specs.Base.{bit}
+use Rattle.base.specs.Base.{bit}
 use Rattle.model.specs.Step.{step}
 use Rattle.model.specs.Shown.{ier, tmeie, errie, wkuie, slkie, erri, wkui, slaki, rqcp, fmp, full, fovr, nextOf, fifoNumber}
 use Rattle.model.specs.declared.Mailbox.the-variants.{M0, M1, M2}

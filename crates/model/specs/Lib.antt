@@ -1,4 +1,3 @@
-pub mod Base
 pub mod Queue
 pub mod Mailboxes
 pub mod Banks

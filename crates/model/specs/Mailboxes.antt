@@ -3,7 +3,7 @@
 use mathlib.Core.Bool.{Bool, false, not, _&&_, _||_}
 use Prim.Native.Nat.{ℕ, _+_, _*_, _/_, _%_, _^_}
 use lib.Dec.{eqb, ltb}
-use Rattle.model.specs.Base.{pick, bit, bits, one}
+use Rattle.base.specs.Base.{pick, bit, bits, one}
 use Rattle.model.specs.Queue.{number, flag, holds, oldest, newest, isFrom, besides, senderNumber, twoOrMore, requested, abortedAll, sending, offWire, noRequests}
 use Rattle.model.specs.declared.Mailbox.{Mailbox}
 use Rattle.model.specs.declared.Mailbox.the-variants.{M0, M1, M2}

@@ -5,7 +5,7 @@ use mathlib.Core.Bool.{Bool, true, false, not, _&&_, _||_}
 use mathlib.Core.Path.{_≡_}
 use Prim.Native.Nat.{_+_, _*_, _%_, _^_, _<_}
 use lib.Dec.{eqb}
-use Rattle.model.specs.Base.{pick, bit, bits, one}
+use Rattle.base.specs.Base.{pick, bit, bits, one}
 use Rattle.model.specs.Shown.{mcr, msr, inrq, sleep, awum, ttcm, slak, wkui, slaki, txm, mode, slkie, timer, Done, nextOf, writesOne, isIdle, isActivity, isStart, isOutcome, bitTimes, resets}
 use Rattle.model.specs.ReadBack.{sets}
 use Rattle.model.specs.declared.Controller.{Controller}

@@ -5,7 +5,7 @@ use mathlib.Core.List.{List, [], _∷_}
 use mathlib.Core.Path.{_≡_}
 use Prim.Native.Nat.{ℕ, _+_, _*_, _-_, _/_, _%_, _^_, _<_, _≤_}
 use lib.ListN.{length}
-use Rattle.model.specs.Base.{bit, bits, one}
+use Rattle.base.specs.Base.{bit, bits, one}
 use Rattle.model.specs.Queue.{same, flag, holds, isFrom}
 use Rattle.model.specs.Mailboxes.{at, tdtMasked}
 use Rattle.model.specs.Reception.{dataBytes, bytesKept, noFrame}

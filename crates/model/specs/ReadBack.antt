@@ -5,7 +5,7 @@ use mathlib.Core.List.{List, [], _∷_}
 use mathlib.Core.Path.{_≡_}
 use Prim.Native.Nat.{ℕ, _+_}
 use lib.Dec.{eqb}
-use Rattle.model.specs.Base.{bit, bits}
+use Rattle.base.specs.Base.{bit, bits}
 use Rattle.model.specs.Shown.{shown, Done, nextOf, writes, isHardwareReset}
 use Rattle.model.specs.Codes.{offsetOf, reads}
 use Rattle.model.specs.declared.Controller.{Controller}

@@ -5,7 +5,7 @@ use mathlib.Core.List.{List}
 use Prim.Native.Nat.{ℕ, _+_, _*_, _-_, _/_, _%_, _^_}
 use lib.Dec.{eqb, ltb, leb}
 use lib.ListN.{getD, set, replicate}
-use Rattle.model.specs.Base.{pick, bit, one}
+use Rattle.base.specs.Base.{pick, bit, one}
 use Rattle.model.specs.Queue.{holds, isNobody, noRequests}
 use Rattle.model.specs.Mailboxes.{at, emptyMailbox, requestedBy, withMailbox, tdtWritten, tdlWritten, tdhWritten, tsrWritten, tsr, tiWord, dropped}
 use Rattle.model.specs.Banks.{bank}

@@ -6,7 +6,7 @@ use mathlib.Core.List.{List, [], _∷_, _++_}
 use Prim.Native.Nat.{ℕ, zero, suc, _+_, _-_, _^_, _<_, _≤_}
 use lib.Dec.{eqb, ltb}
 use lib.ListN.{length}
-use Rattle.model.specs.Base.{pick}
+use Rattle.base.specs.Base.{pick}
 use Rattle.model.specs.Step.{step}
 use Rattle.model.specs.Reachable.{InRange, StepsRange}
 use Rattle.model.specs.Script.{byteAt, number16, number32, part, reply, replay, repliesTo}

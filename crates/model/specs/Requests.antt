@@ -4,7 +4,7 @@ use mathlib.Core.Bool.{Bool, true, false, _&&_, _||_}
 use mathlib.Core.List.{List, [], _∷_}
 use Prim.Native.Nat.{ℕ}
 use lib.Dec.{eqb}
-use Rattle.model.specs.Base.{pick, bit}
+use Rattle.base.specs.Base.{pick, bit}
 use Rattle.model.specs.Queue.{numbered, flag, flagged, noFlags, isFrom}
 use Rattle.model.specs.Mailboxes.{abrq}
 use Rattle.model.specs.Registers.{registerAt}

@@ -5,7 +5,7 @@ use mathlib.Core.List.{List, [], _∷_, _++_}
 use Prim.Native.Nat.{ℕ, zero, suc, _+_, _-_, _*_, _/_, _%_, _^_}
 use lib.Dec.{eqb, ltb, leb}
 use lib.ListN.{length, getD, take, drop}
-use Rattle.model.specs.Base.{pick, one}
+use Rattle.base.specs.Base.{pick, one}
 use Rattle.model.specs.Step.{step, linesOf}
 use Rattle.model.specs.declared.Controller.{Controller}
 use Rattle.model.specs.declared.Stepped.{Stepped}

@@ -6,7 +6,7 @@ use mathlib.Core.List.{List, [], _∷_, _++_, flatten}
 use Prim.Native.Nat.{ℕ, zero, suc, _+_, _-_, _*_, _/_, _≤_}
 use lib.Dec.{eqb, ltb, leb}
 use lib.ListN.{length, take, drop}
-use Rattle.model.specs.Base.{pick}
+use Rattle.base.specs.Base.{pick}
 use Rattle.model.specs.Step.{step, linesOf}
 use Rattle.model.specs.Requests.{after}
 use Rattle.model.specs.Script.{byteAt, number16, isTag, bodyLength, decoded, part, reading, reply, recordAt, replyOf, overwritten, stops, Progress, begun, advanced, times, replay, stepsOf, repliesTo, readingCode}

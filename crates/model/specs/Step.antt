@@ -5,7 +5,7 @@ use mathlib.Core.Bool.{Bool, true, not, _&&_, _||_}
 use mathlib.Core.List.{List}
 use Prim.Native.Nat.{ℕ, _+_, _*_, _/_}
 use lib.Dec.{eqb, ltb, leb}
-use Rattle.model.specs.Base.{pick, bit, one}
+use Rattle.base.specs.Base.{pick, bit, one}
 use Rattle.model.specs.Queue.{isEmpty, senderNumber}
 use Rattle.model.specs.Mailboxes.{at, firstOf, started, ended}
 use Rattle.model.specs.Search.{acceptance}

@@ -6,7 +6,7 @@ use mathlib.Core.Path.{_≡_}
 use Prim.Native.Nat.{ℕ, _+_, _*_, _<_, _≤_}
 use lib.Dec.{eqb, leb}
 use lib.ListN.{length}
-use Rattle.model.specs.Base.{pick, bit}
+use Rattle.base.specs.Base.{pick, bit}
 use Rattle.model.specs.Queue.{number}
 use Rattle.model.specs.Shown.{statusBit, rqcp, txok, alst, terr, abrq, code, tme, low, nart, nextOf}
 use Rattle.model.specs.Codes.{offsetOf}

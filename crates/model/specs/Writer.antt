@@ -6,7 +6,7 @@ use mathlib.Core.List.{List, [], _∷_, _++_}
 use Prim.Native.Nat.{ℕ, _+_, _-_, _^_, _≤_}
 use lib.Dec.{eqb, ltb}
 use lib.ListN.{length, take, drop}
-use Rattle.model.specs.Base.{pick}
+use Rattle.base.specs.Base.{pick}
 use Rattle.model.specs.Script.{stepTag, bodyLength, part, reading, stepsOf, overwritten}
 use Rattle.model.specs.Records.{Bytes, Field, stepFields, stepNumbers, recordOf, scriptOf, AllFit}
 use Rattle.model.specs.Reachable.{StepRange}

@@ -9,8 +9,8 @@ use lib.Dec.{eqb, leb}
 use lib.ListN.{length, getD, take, drop, set, length-append, length-drop}
 use lib.Seq.{take-suc, take-suc-set, take-all, take-at, drop-append-add, getD-drop}
 use borrow.Author.Tests.{eqb-true, leb-true, leb-false, le-leb, lt-leb}
-use Rattle.model.specs.Base.{pick}
-use Rattle.model.proofs.Choices.{Is, and-l, and-r}
+use Rattle.base.specs.Base.{pick}
+use Rattle.base.proofs.Choices.{Is, and-l, and-r}
 use Rattle.names.specs.Listing.{noRow, cut, rowOf}
 
 -- ---- the loop

@@ -7,7 +7,7 @@ use native.Mathlib.Omega.{arith}
 use lib.Dec.{eqb, leb}
 use lib.ListN.{length, getD}
 use borrow.Author.Tests.{leb-true, leb-false, le-leb, lt-leb, lt-ltb, le-ltb, eq-eqb, ne-eqb}
-use Rattle.model.specs.Base.{pick}
+use Rattle.base.specs.Base.{pick}
 use Rattle.names.specs.Scan.{byteAt, digitOf, isOf, runOn, baseOf, withDigit, valueOn}
 use Rattle.names.specs.Listing.{text}
 use Rattle.names.specs.Rows.{none, nowhere, sameOn, isNamed, findOn, isAt, indexAt, registerOn}

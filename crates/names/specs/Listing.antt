@@ -6,7 +6,7 @@ use Prim.Native.Char.{code}
 use Prim.Native.String.{String, [] as ended, _∷_ as _then_}
 use lib.Dec.{ltb, leb}
 use lib.ListN.{length, take, drop, replicate}
-use Rattle.model.specs.Base.{pick}
+use Rattle.base.specs.Base.{pick}
 
 -- a text as bytes
 unfoldable pub bytes : String → List ℕ

@@ -5,7 +5,7 @@ use mathlib.Core.List.{List}
 use Prim.Native.Nat.{ℕ, zero, suc, _+_, _-_, _*_, _%_, _^_}
 use lib.Dec.{eqb, ltb, leb}
 use lib.ListN.{length, getD}
-use Rattle.model.specs.Base.{pick}
+use Rattle.base.specs.Base.{pick}
 use Rattle.names.specs.declared.scan.Class.{Class}
 use Rattle.names.specs.declared.scan.Class.the-variants.{Blank, NoBlank, HexDigit, Digit, Letter}
 use Rattle.names.specs.declared.scan.Word.{Word}

@@ -11,7 +11,7 @@ use lib.Seq.{drop-cons}
 use Rattle.names.specs.Table.{place}
 use Rattle.names.specs.declared.rows.Found.{Found}
 use borrow.Author.Tests.{le-leb, lt-leb, eq-eqb, ne-eqb}
-use Rattle.model.specs.Base.{pick}
+use Rattle.base.specs.Base.{pick}
 use Rattle.text.specs.Lines.{putAll, put-both}
 use Rattle.text.specs.declared.Line.{Line}
 use Rattle.phrases.specs.Names.{letterText, nameOn, nameText, fieldValue, placed, numberOf, fieldText, rowOn, rowFields, fieldsOn, allText, restOf, withField, withFields}

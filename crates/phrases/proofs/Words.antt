@@ -7,7 +7,7 @@ use native.Mathlib.Omega.{arith}
 use lib.Dec.{leb}
 use lib.Pow.{pow-mono, pow-lt, split}
 use borrow.Author.Tests.{leb-true}
-use Rattle.model.specs.Base.{pick, bits}
+use Rattle.base.specs.Base.{pick, bits}
 use Rattle.names.specs.Rows.{numbers}
 use Rattle.names.specs.Table.{place}
 use Rattle.names.specs.declared.rows.Found.{Found}

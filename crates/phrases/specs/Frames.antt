@@ -4,7 +4,7 @@ use mathlib.Core.List.{List, [], _∷_, _++_}
 use Prim.Native.Nat.{ℕ, _+_, _-_, _/_, _^_}
 use lib.Dec.{eqb, ltb, leb}
 use lib.ListN.{take, drop}
-use Rattle.model.specs.Base.{pick, bit}
+use Rattle.base.specs.Base.{pick, bit}
 use Rattle.model.specs.Records.{recordOf}
 use Rattle.model.specs.Reception.{malformed, dataBytes, bytesKept}
 use Rattle.model.specs.declared.Frame.{Frame}

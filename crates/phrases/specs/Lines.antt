@@ -1,7 +1,7 @@
 -- Interrupt lines as text.
 use mathlib.Core.List.{List, [], _∷_, _++_}
 use Prim.Native.Nat.{ℕ, zero, suc, _+_}
-use Rattle.model.specs.Base.{pick, bit}
+use Rattle.base.specs.Base.{pick, bit}
 use Rattle.phrases.specs.Names.{nameText}
 
 -- a line that is up, with a blank in front; rows 22 to 25 are the lines 0 to 3

@@ -4,7 +4,7 @@ use mathlib.Core.List.{List, [], _∷_, _++_}
 use Prim.Native.Nat.{ℕ, zero, suc, _+_, _-_, _*_, _^_}
 use lib.Dec.{eqb, leb}
 use lib.ListN.{getD}
-use Rattle.model.specs.Base.{pick, bit, bits}
+use Rattle.base.specs.Base.{pick, bit, bits}
 use Rattle.names.specs.Listing.{text}
 use Rattle.names.specs.Rows.{none, numbers}
 use Rattle.names.specs.Table.{rowsOf, place, registerAt}

@@ -8,12 +8,12 @@ use native.Mathlib.Omega.{arith}
 use lib.Dec.{eqb}
 use lib.ListN.{length, take, drop, length-take, length-append}
 use lib.Seq.{take-all, take-append-le, length-take-le}
-use Rattle.model.specs.Base.{pick}
+use Rattle.base.specs.Base.{pick}
 use Rattle.model.specs.Script.{overwritten, Progress, replay, stepsOf}
 use Rattle.model.specs.Scripts.{goesOn, followed, leftBy, afterPiece, inPieces, Fit}
 use Rattle.model.specs.declared.Controller.{Controller}
 use Rattle.model.specs.declared.Replay.{Replay}
-use Rattle.model.proofs.Choices.{pick-cases}
+use Rattle.base.proofs.Choices.{pick-cases}
 use Rattle.model.proofs.Replays.{replays}
 use Rattle.model.proofs.Pieces.{resumes, in-pieces}
 use Rattle.pieces.specs.declared.Position.{Position}

@@ -2,7 +2,7 @@
 ghost use mathlib.Core.Path.{_≡_};
 ghost use Prim.Native.Nat.{_*_, _≤_};
 ghost use lib.ListN.{length};
-ghost use Rattle.model.specs.Base as base;
+ghost use Rattle.base.specs.Base as base;
 ghost use Rattle.model.specs.Scripts as scripts;
 ghost use Rattle.pieces.specs.Turns as turns;
 use model::Controller;

@@ -2,7 +2,7 @@
 -- proofs/StatusParts.antt shows that they make up the model's `tsr`.
 use mathlib.Core.Bool.{not, _&&_}
 use Prim.Native.Nat.{ℕ, _+_, _*_, _^_}
-use Rattle.model.specs.Base.{pick, one}
+use Rattle.base.specs.Base.{pick, one}
 use Rattle.model.specs.Queue.{holds, isFrom, senderNumber, twoOrMore}
 use Rattle.model.specs.Mailboxes.{tsrByte}
 use Rattle.model.specs.declared.Mailbox.the-variants.{M0, M1, M2}

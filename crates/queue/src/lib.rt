@@ -1,6 +1,6 @@
 // The requests of the three mailboxes: their order, the mailbox that is transmitting, the remembered aborts.
 ghost use mathlib.Core.Path.{_≡_};
-ghost use Rattle.model.specs.Base as base;
+ghost use Rattle.base.specs.Base as base;
 ghost use Rattle.model.specs.Queue as queue;
 use model::Mailbox;
 use model::MailboxBits;

@@ -6,7 +6,7 @@ use native.Mathlib.Omega.{arith}
 use lib.Bits.{bitAnd, and-step, and-zero-r}
 use lib.Dec.{eqb}
 use lib.Pow.{shr-shr}
-use Rattle.model.specs.Base.{bit, one}
+use Rattle.base.specs.Base.{bit, one}
 use Rattle.model.proofs.Digits.{for-digit}
 
 one-lt : (b : Bool) → one b < 2

@@ -6,13 +6,13 @@ use Prim.Native.Nat.{ℕ, _+_, _*_, _-_, _/_, _%_, _<_, _≤_}
 use native.Mathlib.Omega.{arith}
 use lib.Dec.{eqb, ltb}
 use borrow.Author.Tests.{eqb-true, eqb-false, ltb-true, ltb-false, ne-eqb, lt-ltb, le-ltb, le-leb, lt-leb}
-use Rattle.model.specs.Base.{pick}
+use Rattle.base.specs.Base.{pick}
 use Rattle.model.specs.Banks.{bank}
 use Rattle.model.specs.Registers.{registerAt, controlRegister, mailboxRegister, outputRegister, blockRegister, bankRegister, filterRegister, isAbsent, bankWord, readWord}
 use Rattle.model.specs.declared.Core.{Core}
 use Rattle.model.specs.declared.Register.{Register}
 use Rattle.model.specs.declared.Register.the-variants.{Mcr, Msr, Tsr, Rfr, Ier, Esr, Btr, Ti, Tdt, Tdl, Tdh, Ri, Rdt, Rdl, Rdh, Fmr, Fm1r, Fs1r, Ffa1r, Fa1r, R1, R2, Absent}
-use Rattle.model.proofs.Choices.{Is}
+use Rattle.base.proofs.Choices.{Is}
 use Rattle.model.proofs.Bounded.{allBelow, each-below}
 use Rattle.reads.specs.Shown.{bankRead, readAt}
 

@@ -4,7 +4,7 @@ use mathlib.Core.List.{List}
 use Prim.Native.Nat.{ℕ, _-_, _/_, _%_}
 use lib.Dec.{eqb, ltb, leb}
 use lib.ListN.{getD}
-use Rattle.model.specs.Base.{pick}
+use Rattle.base.specs.Base.{pick}
 use Rattle.model.specs.Registers.{registerAt, isAbsent, readWord}
 use Rattle.model.specs.declared.Core.{Core}
 use Rattle.reads.specs.declared.Shown.{Shown}

@@ -7,8 +7,8 @@ use lib.Bits.{bitAnd, and-mod, and-mask}
 use lib.Dec.{leb}
 use lib.Pow.{pow-mono, pow-lt, ones-lt, ones-split, high}
 use borrow.Author.Tests.{leb-true, leb-false}
-use Rattle.model.proofs.Choices.{pick-cases}
-use Rattle.model.specs.Base.{bit}
+use Rattle.base.proofs.Choices.{pick-cases}
+use Rattle.base.specs.Base.{bit}
 use Rattle.model.specs.Reception.{dataBytes, bytesKept}
 use Rattle.model.specs.declared.Frame.{Frame}
 

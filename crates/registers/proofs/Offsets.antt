@@ -6,9 +6,9 @@ use Prim.Native.Nat.{ℕ, _-_, _/_, _%_, _^_, _≤_, _<_}
 use native.Mathlib.Omega.{arith}
 use lib.Dec.{eqb, ltb}
 use borrow.Author.Tests.{ne-eqb, le-ltb, le-leb}
-use Rattle.model.proofs.Choices.{Is}
+use Rattle.base.proofs.Choices.{Is}
 use Rattle.model.proofs.Bounded.{allBelow, each-below}
-use Rattle.model.specs.Base.{pick}
+use Rattle.base.specs.Base.{pick}
 use Rattle.model.specs.Banks.{bank}
 use Rattle.model.specs.Registers.{registerAt, controlRegister, blockRegister, mailboxRegister, outputRegister, filterRegister, bankRegister, isAbsent}
 use Rattle.model.specs.declared.Register.{Register}

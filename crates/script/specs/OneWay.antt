@@ -6,7 +6,7 @@ use mathlib.Core.List.{List, []}
 use Prim.Native.Nat.{ℕ}
 use lib.Dec.{eqb, ltb}
 use lib.ListN.{length}
-use Rattle.model.specs.Base.{pick}
+use Rattle.base.specs.Base.{pick}
 use Rattle.model.specs.Script.{reading, replayed, recordAt, reply}
 use Rattle.model.specs.Step.{step, answered, refusal, coreAfter, banksAfter, linesOf}
 use Rattle.model.specs.declared.Controller.{Controller}

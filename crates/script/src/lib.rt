@@ -5,7 +5,7 @@ ghost use Prim.Native.Nat.{_≤_};
 ghost use mathlib.Core.Bool.{false, _||_};
 ghost use lib.Dec.{eqb, ltb};
 ghost use lib.ListN.{length};
-ghost use Rattle.model.specs.Base as base;
+ghost use Rattle.base.specs.Base as base;
 ghost use Rattle.model.specs.Script as scripts;
 ghost use Rattle.script.specs.OneWay as way;
 use model::Controller;

@@ -7,7 +7,7 @@ use native.Mathlib.Omega.{arith}
 use lib.Dec.{eqb, ltb}
 use lib.ListN.{length}
 use borrow.Author.Tests.{ltb-true, ltb-false, lt-ltb, le-ltb, le-leb, lt-leb}
-use Rattle.model.specs.Base.{pick}
+use Rattle.base.specs.Base.{pick}
 use Rattle.starvation.specs.Number.{numeralNumbers, withDigit, next, readOn, parsed}
 use Rattle.starvation.specs.Decimal.{allDigits, decimalFrom, Decimal}
 use Rattle.starvation.specs.declared.number.Numeral.the-variants.{Number, Bad}

@@ -2,7 +2,7 @@
 use mathlib.Core.List.{List, [], _∷_, _++_}
 use Prim.Native.Nat.{ℕ, zero, suc, _+_, _*_, _/_, _%_, _^_}
 use lib.Dec.{ltb}
-use Rattle.model.specs.Base.{pick}
+use Rattle.base.specs.Base.{pick}
 
 -- 0 to 9, A to F
 abbrev pub digit : ℕ → ℕ

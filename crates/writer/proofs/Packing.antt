@@ -10,7 +10,7 @@ use borrow.Author.Tests.{ltb-true, lt-ltb}
 use Rattle.model.specs.Records.{bytesOf, fieldBytes}
 use Rattle.model.specs.declared.Frame.{Frame}
 use Rattle.model.specs.declared.Step.the-variants.{Reset, Read, Write, Idle, BitTimes, Activity, Start, Outcome, Receive, ReceiveError}
-use Rattle.model.proofs.Choices.{and-l, and-r}
+use Rattle.base.proofs.Choices.{and-l, and-r}
 use Rattle.writer.specs.Packing.{Packs}
 use Rattle.writer.specs.declared.Packed.{Packed}
 

@@ -7,7 +7,7 @@ use native.Mathlib.Omega.{arith}
 use borrow.Author.Tests.{ltb-true, lt-ltb}
 use lib.Dec.{eqb, ltb}
 use lib.ListN.{set}
-use Rattle.model.specs.Base.{pick}
+use Rattle.base.specs.Base.{pick}
 use Rattle.model.specs.Registers.{bankCount, reset, withBankWord, banksWritten}
 use Rattle.model.specs.declared.Bank.{Bank}
 use Rattle.model.specs.declared.Register.{Register}

@@ -3,7 +3,7 @@ use native.Mathlib.Omega.{arith}
 use lib.Dec.{eqb}
 use borrow.Author.Tests.{ltb-true, le-leb, lt-leb}
 use borrow.Author.Needs.{needs}
-use Rattle.model.proofs.Choices.{and-r}
+use Rattle.base.proofs.Choices.{and-r}
 use Rattle.names.specs.Rows as rows
 use Rattle.names.specs.Table as tables
 use Rattle.names.proofs.named.Statement.{statement}

@@ -2,7 +2,7 @@ use mathlib.Core.Path.{sym, ap, _∙_}
 use Prim.Native.Nat.{ℕ}
 use native.Mathlib.Omega.{arith}
 use borrow.Author.Tests.{leb-false}
-use Rattle.model.proofs.Choices.{or-l, or-r}
+use Rattle.base.proofs.Choices.{or-l, or-r}
 use Rattle.phrases.specs.Names.{isOther}
 use Rattle.phrases.proofs.Words.{not-told, told}
 use borrow.Author.Needs.{needs}

@@ -6,7 +6,7 @@ use native.Mathlib.Omega.{arith}
 use lib.Dec.{eqb, ltb, leb}
 use borrow.Author.Tests.{ltb-false, leb-false}
 use borrow.Author.Needs.{needs}
-use Rattle.model.proofs.Choices.{or-l, or-r}
+use Rattle.base.proofs.Choices.{or-l, or-r}
 use Rattle.reads.specs.Shown.{bankRead}
 use Rattle.reads.proofs.bank_read.Statement.{statement}
 use Rattle.reads.proofs.bank_read.Tie as tie

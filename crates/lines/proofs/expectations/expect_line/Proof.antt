@@ -1,7 +1,7 @@
 use native.Mathlib.Omega.{arith}
 use lib.Dec.{eqb, ltb}
 use borrow.Author.Tests.{ltb-false}
-use Rattle.model.proofs.Choices.{or-r}
+use Rattle.base.proofs.Choices.{or-r}
 use borrow.Author.Tests.{eq-eqb, ne-eqb, lt-ltb, le-ltb}
 use Rattle.lines.specs.Expectations.{expectLine}
 use borrow.Author.Needs.{needs}

@@ -3,7 +3,7 @@ use Prim.Native.Nat.{_%_}
 use native.Mathlib.Omega.{arith}
 use lib.Dec.{eqb, ltb, lit≤}
 use borrow.Author.Tests.{ltb-false}
-use Rattle.model.proofs.Choices.{or-r}
+use Rattle.base.proofs.Choices.{or-r}
 use Rattle.lines.proofs.Places.{near}
 use borrow.Author.Tests.{eq-eqb, ne-eqb}
 use Rattle.lines.specs.Frames.{behindIdentifier}

@@ -2,7 +2,7 @@ use mathlib.Core.Bool.{not}
 use native.Mathlib.Omega.{arith}
 use lib.Dec.{eqb, ltb, lit≤}
 use borrow.Author.Tests.{eqb-true, not-false, ltb-false}
-use Rattle.model.proofs.Choices.{or-r}
+use Rattle.base.proofs.Choices.{or-r}
 use Rattle.lines.proofs.Places.{near}
 use borrow.Author.Tests.{lt-ltb, le-ltb, le-leb, lt-leb}
 use Rattle.lines.specs.Frames.{finished}

@@ -1,7 +1,7 @@
 use native.Mathlib.Nat.{le-trans}
 use lib.Dec.{ltb, lit≤}
 use borrow.Author.Tests.{ltb-false}
-use Rattle.model.proofs.Choices.{or-l}
+use Rattle.base.proofs.Choices.{or-l}
 use Rattle.lines.proofs.Places.{near}
 use Rattle.lines.specs.Numbers.{numeral, numeralOf}
 use borrow.Author.Needs.{needs}

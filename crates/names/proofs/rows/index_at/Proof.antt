@@ -3,7 +3,7 @@ use mathlib.Core.Path.{_≡_}
 use Prim.Native.Nat.{ℕ, _<_}
 use native.Mathlib.Omega.{arith}
 use lib.Dec.{eqb, ltb}
-use Rattle.model.proofs.Choices.{or-l, or-r}
+use Rattle.base.proofs.Choices.{or-l, or-r}
 use borrow.Author.Tests.{ltb-false, eqb-false, eq-eqb, ne-eqb}
 use Rattle.names.proofs.rows.index_at.Statement.{statement}
 use Rattle.names.proofs.rows.index_at.Tie as tie

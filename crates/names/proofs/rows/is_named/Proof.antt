@@ -4,7 +4,7 @@ use native.Mathlib.Omega.{arith}
 use lib.Dec.{leb}
 use borrow.Author.Tests.{leb-false}
 use borrow.Author.Needs.{needs}
-use Rattle.model.proofs.Choices.{or-l}
+use Rattle.base.proofs.Choices.{or-l}
 use Rattle.names.specs.Rows as rows
 use Rattle.names.proofs.Loops.{same-blank, same-no-digits, same-digits, same-other, same-letter, same-ended}
 use Rattle.names.proofs.rows.is_named.Statement.{statement}

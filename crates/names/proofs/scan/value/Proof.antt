@@ -5,7 +5,7 @@ use native.Mathlib.Omega.{arith}
 use lib.Dec.{leb}
 use borrow.Author.Tests.{leb-false}
 use borrow.Author.Needs.{needs}
-use Rattle.model.proofs.Choices.{or-l, or-r}
+use Rattle.base.proofs.Choices.{or-l, or-r}
 use Rattle.names.specs.Scan as scan
 use Rattle.names.proofs.Loops.{digit-ends, digit-more, value-on, value-stops, value-ended}
 use Rattle.names.proofs.scan.value.Statement.{statement}

@@ -1,0 +1,1 @@
+// No function: the conditional, bits and sums that all definitions are made of, with their laws.
