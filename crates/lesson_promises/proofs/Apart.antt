@@ -11,8 +11,8 @@ use Rattle.model.specs.declared.Answer.{Answer}
 use Rattle.model.specs.declared.WideStep.{WideStep}
 use Rattle.model.specs.declared.WideStep.the-variants.{Reset, Read, Write, Idle, BitTimes, Activity, Start, Outcome, Receive, ReceiveError}
 use Rattle.lines.specs.Meanings.{meaningNumbers, bad}
-use Rattle.lines.specs.Meanings as meanings
-use Rattle.lines.specs.declared.Expected.{Expected}
+use Rattle.expected.specs.Holds as expectations
+use Rattle.expected.specs.declared.Expected.{Expected}
 use Rattle.lines.specs.declared.Meaning.{Meaning}
 use Rattle.lines.specs.declared.Meaning.the-variants.{Nothing, Step, Bytes, Expect, Repeat, Done, Bad}
 use Rattle.lesson_promises.specs.Reading.{Apart, Holds}
@@ -107,7 +107,7 @@ either true = refl
 either false = refl
 
 pub holds : (x : Expected) (a : Answer) → Holds x a
-unfolding meanings.holds
+unfolding expectations.holds
 holds x a = record {
   code = λ h g. eqb-true (x .code) (a .code) (code-met c w (x .lined) l (rw g at h));
   word = λ h g. eqb-true (x .word) (a .word) (word-met c w (x .lined) l (rw g at h));

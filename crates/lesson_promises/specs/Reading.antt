@@ -5,9 +5,10 @@ use mathlib.Core.Path.{_≡_}
 use Rattle.model.specs.declared.Answer.{Answer}
 use Rattle.model.specs.declared.WideStep.the-variants.{Reset, Read, Write, Idle, BitTimes, Activity, Start, Outcome, Receive, ReceiveError}
 use Rattle.names.specs.Table.{bytes}
-use Rattle.lines.specs.Meanings.{meaningNumbers, bad, holds}
+use Rattle.lines.specs.Meanings.{meaningNumbers, bad}
 use Rattle.lines.specs.Lines.{meaningOf}
-use Rattle.lines.specs.declared.Expected.{Expected}
+use Rattle.expected.specs.Holds.{holds}
+use Rattle.expected.specs.declared.Expected.{Expected}
 use Rattle.lines.specs.declared.Meaning.{Meaning}
 use Rattle.lines.specs.declared.Meaning.the-variants.{Nothing, Step, Bytes, Expect, Repeat, Done}
 

@@ -2,8 +2,8 @@
 // error says where it is, what was found there and what is allowed; then nothing more is read. With --check nothing is written and no
 // repeat is run twice; with --expects items are written, for the program trace: bytes of the script, and what its steps must answer.
 use bits::least;
+use expected::Expected;
 use libc::STDOUT_FILENO;
-use lines::Expected;
 use lines::Meaning;
 use names::scan::value;
 use names::scan::word_at;

@@ -10,7 +10,7 @@ use Rattle.lines.specs.Parts.{lineNames, allWords}
 use Rattle.lines.specs.Meanings.{bad, alone}
 use Rattle.lines.specs.declared.numbers.Term.{Term}
 use Rattle.lines.specs.declared.parts.Part.{Part}
-use Rattle.lines.specs.declared.Expected.{Expected}
+use Rattle.expected.specs.declared.Expected.{Expected}
 use Rattle.lines.specs.declared.Meaning.{Meaning}
 use Rattle.lines.specs.declared.Meaning.the-variants.{Expect}
 

@@ -5,12 +5,11 @@ use Prim.Native.Nat.{ℕ, _%_, _^_}
 use lib.Dec.{eqb, ltb, leb}
 use Rattle.base.specs.Base.{pick, one}
 use Rattle.model.specs.Writer.{wideNumbers}
-use Rattle.model.specs.declared.Answer.{Answer}
 use Rattle.names.specs.Scan.{wordAt}
 use Rattle.names.specs.declared.scan.Word.{Word}
 use Rattle.lines.specs.declared.numbers.Term.{Term}
 use Rattle.lines.specs.declared.parts.Part.{Part}
-use Rattle.lines.specs.declared.Expected.{Expected}
+use Rattle.expected.specs.declared.Expected.{Expected}
 use Rattle.lines.specs.declared.Meaning.{Meaning}
 use Rattle.lines.specs.declared.Meaning.the-variants.{Nothing, Step, Bytes, Expect, Repeat, Done, Bad}
 
@@ -46,9 +45,3 @@ alone s p m = ended (wordAt s p) m
 -- a word that stands for a number up to a limit, or breaks a rule; nothing behind it
 unfoldable pub last : List ℕ → Term → ℕ → ℕ → ℕ → Meaning → Meaning
 last s t limit rule n m = pick (ltb limit (t .number)) (bad (t .from) rule n) (alone s (t .to) m)
-
--- what is not given is not compared
-unfoldable pub holds : Expected → Answer → Bool
-holds x a =
-    (not (x .answered) || (eqb (x .code) (a .code) && eqb (x .word) (a .word)))
-    && (not (x .lined) || eqb (x .lines) (a .lines))

@@ -1,7 +1,6 @@
 // What a step must answer.
 ghost use mathlib.Core.Path.{_≡_};
 ghost use Rattle.lines.specs.Expectations as expectations;
-use super::Expected;
 use super::Meaning;
 use super::WANTS_EXPECTATION;
 use super::WANTS_LINES;
@@ -15,6 +14,7 @@ use super::numbers::by_name;
 use super::numbers::numeral;
 use super::parts::Kind;
 use super::parts::all_words;
+use expected::Expected;
 use names::Group;
 
 // Behind the word `lines`.

@@ -2,7 +2,7 @@
 ghost use mathlib.Core.Path.{_≡_};
 ghost use Rattle.lines.specs.Meanings as meanings;
 ghost use Rattle.lines.specs.Lines as lines;
-use model::Answer;
+use expected::Expected;
 use model::WideStep;
 use names::Group;
 use names::scan::word_at;
@@ -14,15 +14,6 @@ mod expectations; // what a step must answer
 mod frames; // a frame as can-utils writes it
 mod numbers; // numbers, and names that stand for numbers
 mod parts; // fields, interrupt lines and bytes: as many as there are
-
-// What the step above must answer: code and word where `answered`, the interrupt lines where `lined`.
-pub struct Expected {
-    pub answered: bool,
-    pub code: u8,
-    pub word: u32,
-    pub lined: bool,
-    pub lines: u8,
-}
 
 // Where a line is no line of a lesson, which rule it breaks there, and the number that the rule speaks of.
 pub struct Fault {
@@ -39,15 +30,6 @@ pub enum Meaning {
     Repeat(u32),
     Done,
     Bad(Fault),
-}
-
-// Whether an answer is what is expected.
-pub fn holds(x: Expected, a: Answer) -> bool
-    ensures { λ r. ⌜ r ≡ meanings.holds x a ⌝ }
-{
-    let answer = !x.answered | ((x.code == a.code) & (x.word == a.word));
-    let lines = !x.lined | (x.lines == a.lines);
-    answer & lines
 }
 
 // ---- the rules

@@ -8,7 +8,7 @@ use super::complain_line;
 use super::fault;
 use super::flushed;
 use super::unsaid_told;
-use lines::Expected;
+use expected::Expected;
 use model::Answer;
 use text::Line;
 use text::byte;
@@ -100,7 +100,7 @@ fn checked(p: Progress, line: u64, expected: u64, space: &[u8], out: &[u8]) -> P
         lines: p.lines,
         word: p.word,
     };
-    if (p.of != NOTHING) & (p.of != BEHIND) & lines::holds(x, came) {
+    if (p.of != NOTHING) & (p.of != BEHIND) & expected::holds(x, came) {
         let mut q = p;
         q.checked = std::num::wrapping_add_u64(p.checked, 1);
         q.unsaid = p.unsaid & !x.answered;

@@ -1,7 +1,7 @@
 use mathlib.Core.Path.{refl}
-use Rattle.lines.specs.Meanings.{holds}
-use Rattle.lines.proofs.holds.Statement.{statement}
-use Rattle.lines.proofs.holds.Tie as tie
+use Rattle.expected.specs.Holds.{holds}
+use Rattle.expected.proofs.holds.Statement.{statement}
+use Rattle.expected.proofs.holds.Tie as tie
 
 returns : tie.Need-returns
 unfolding holds
