@@ -34,13 +34,13 @@ mul-extended : tie.Need-mul-extended
 mul-extended c = let e = extended (c .before .before .before .distance .result) (c .before .before .value .result) (c .if2 .taken) in record { fits = omega (arith, e .wide) }
 
 add-extended : tie.Need-add-extended
-add-extended c = record { fits = extended (c .before .before .before .distance .result) (c .before .before .value .result) (c .if2 .taken) .wide }
+add-extended c = let e = extended (c .before .before .before .distance .result) (c .before .before .value .result) (c .if2 .taken) in record { fits = omega (arith, e .wide) }
 
 cast-behind-identifier-2 : tie.Need-cast-behind-identifier-2
-cast-behind-identifier-2 c = record { fits = extended (c .before .before .before .distance .result) (c .before .before .value .result) (c .if2 .taken) .narrow }
+cast-behind-identifier-2 c = let e = extended (c .before .before .before .distance .result) (c .before .before .value .result) (c .if2 .taken) in record { fits = omega (arith, e .narrow) }
 
 behind-identifier-requires-2 : tie.Need-behind-identifier-requires-2
-behind-identifier-requires-2 c κs = extended (c .before .before .before .distance .result) (c .before .before .value .result) (c .if2 .taken) .small
+behind-identifier-requires-2 c κs = let e = extended (c .before .before .before .distance .result) (c .before .before .value .result) (c .if2 .taken) in omega (arith, e .small)
 
 returns-2 : tie.Need-returns-2
 unfolding frameLine

@@ -1,7 +1,6 @@
 -- The invariant: the definition, from the words so far on, gives what it gives from the start.
 use mathlib.Core.Path.{_≡_, refl, sym, _∙_}
 use Rattle.lines.proofs.Words.{words-done, words-on, words-ended}
-use borrow.Author.Tests.{lt-ltb, le-ltb}
 use borrow.Author.Needs.{needs}
 use Rattle.lines.specs.Parts.{wordsOn, allWords}
 use Rattle.lines.proofs.parts.all_words.Statement.{statement}

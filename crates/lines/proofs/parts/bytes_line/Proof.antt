@@ -2,7 +2,7 @@
 use mathlib.Core.Path.{_≡_, refl, sym, _∙_}
 use borrow.Author.Tests.{le-leb}
 use Rattle.lines.proofs.Words.{bytes-done, bytes-bad, bytes-on, bytes-ended, bytes-begun}
-use borrow.Author.Tests.{lt-ltb, le-ltb, le-leb, lt-leb}
+use borrow.Author.Tests.{le-leb}
 use borrow.Author.Needs.{needs}
 use Rattle.lines.specs.Lines.{bytesOn, bytesLine}
 use Rattle.lines.proofs.parts.bytes_line.Statement.{statement}
