@@ -1,7 +1,7 @@
 -- What there is to say of a step. a is what the step gives.
 use mathlib.Core.List.{List}
 use Rattle.model.specs.Registers.{registerAt}
-use Rattle.registers.specs.Accesses.{offsetOf}
+use Rattle.account.specs.Accesses.{offsetOf}
 use Rattle.model.specs.declared.Controller.{Controller}
 use Rattle.model.specs.declared.Stepped.{Stepped}
 use Rattle.model.specs.declared.Step as steps

@@ -15,7 +15,7 @@ use Rattle.model.specs.Codes.{isOutput}
 use Rattle.model.specs.Codes as codes
 use Rattle.model.specs.Step.{refusal}
 use Rattle.model.specs.Script.{reading, isTag, bodyLength, number16, byteAt}
-use Rattle.registers.specs.Accesses as accesses
+use Rattle.account.specs.Accesses as accesses
 use Rattle.model.specs.declared.Core.{Core}
 use Rattle.model.specs.declared.Frame.{Frame}
 use Rattle.model.specs.declared.Reading.the-variants.{Malformed}

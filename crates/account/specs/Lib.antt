@@ -1,3 +1,4 @@
+pub mod Accesses
 pub mod Accounts
 pub mod Faults
 pub mod Laws

@@ -1,7 +1,7 @@
 // The register of an access, by its number in the table of names.
 ghost use mathlib.Core.Path.{_≡_};
 ghost use Rattle.model.specs.Registers as registers;
-ghost use Rattle.registers.specs.Accesses as accesses;
+ghost use Rattle.account.specs.Accesses as accesses;
 ghost use Rattle.account.specs.Places as places;
 use model::Step;
 

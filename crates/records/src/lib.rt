@@ -4,7 +4,7 @@ ghost use Rattle.model.specs.Script as scripts;
 use model::Reading;
 use model::Step;
 
-pub mod decode; // decode.rt: numbers of two and four bytes, which other readers need too, and a frame
+pub mod decode; // decode.rt: the step of a record's body, and numbers of two and four bytes, which other readers need too
 
 // The length of the body that a tag has.
 pub fn body_length(tag: u8) -> usize
@@ -21,7 +21,7 @@ pub fn body_length(tag: u8) -> usize
     }
 }
 
-// The record that begins at a place.
+// The record that begins at a place. The body is handed on as the part of the script where it lies.
 pub fn reading(script: &[u8], place: usize) -> Reading
     ensures { λ r. ⌜ r ≡ scripts.reading (now (script .entry)) place ⌝ }
 {
@@ -52,7 +52,7 @@ pub fn reading(script: &[u8], place: usize) -> Reading
                 return Reading::Malformed(6);
             }
             let b = a + 2;
-            Reading::Found(Step::Read(decode::number16(script, a)), b)
+            Reading::Found(decode::read_step(&script[a..b]), b)
         }
         3 => {
             if length != 6 {
@@ -62,10 +62,7 @@ pub fn reading(script: &[u8], place: usize) -> Reading
                 return Reading::Malformed(6);
             }
             let b = a + 6;
-            let k = a + 2;
-            let offset = decode::number16(script, a);
-            let word = decode::number32(script, k);
-            Reading::Found(Step::Write(offset, word), b)
+            Reading::Found(decode::write_step(&script[a..b]), b)
         }
         4 => {
             if length != 0 {
@@ -81,7 +78,7 @@ pub fn reading(script: &[u8], place: usize) -> Reading
                 return Reading::Malformed(6);
             }
             let b = a + 2;
-            Reading::Found(Step::BitTimes(decode::number16(script, a)), b)
+            Reading::Found(decode::bit_times_step(&script[a..b]), b)
         }
         6 => {
             if length != 0 {
@@ -103,8 +100,7 @@ pub fn reading(script: &[u8], place: usize) -> Reading
                 return Reading::Malformed(6);
             }
             let b = a + 1;
-            let result = script[a];
-            Reading::Found(Step::Outcome(result), b)
+            Reading::Found(decode::outcome_step(&script[a..b]), b)
         }
         9 => {
             if length != 13 {
@@ -114,7 +110,7 @@ pub fn reading(script: &[u8], place: usize) -> Reading
                 return Reading::Malformed(6);
             }
             let b = a + 13;
-            Reading::Found(decode::receive_step(script, a), b)
+            Reading::Found(decode::receive_step(&script[a..b]), b)
         }
         10 => {
             if length != 2 {
@@ -124,10 +120,7 @@ pub fn reading(script: &[u8], place: usize) -> Reading
                 return Reading::Malformed(6);
             }
             let b = a + 2;
-            let k = a + 1;
-            let code = script[a];
-            let by = script[k];
-            Reading::Found(Step::ReceiveError(code, by), b)
+            Reading::Found(decode::receive_error_step(&script[a..b]), b)
         }
         _ => Reading::Malformed(7),
     }

@@ -1,12 +1,10 @@
 // The register map: which register an offset names.
 ghost use mathlib.Core.Path.{_≡_};
 ghost use Rattle.model.specs.Registers as registers;
-ghost use Rattle.registers.specs.Accesses as accesses;
 use model::Bank;
 use model::Fifo;
 use model::Mailbox;
 use model::Register;
-use model::Step;
 
 fn bank_register(b: Bank, k: u16) -> Register
     ensures { λ r. ⌜ r ≡ registers.bankRegister b k ⌝ }
@@ -67,33 +65,4 @@ pub fn register_at(o: u16) -> Register
             bank_register(Bank(i as u32), o % 8)
         }
     }
-}
-
-// The offset of a register access; any other step has 1, which names no register.
-fn offset_of(e: Step) -> u16
-    ensures { λ r. ⌜ r ≡ accesses.offsetOf e ⌝ }
-{
-    match e {
-        Step::Reset => 1,
-        Step::Read(o) => o,
-        Step::Write(o, _) => o,
-        Step::Idle => 1,
-        Step::BitTimes(_) => 1,
-        Step::Activity => 1,
-        Step::Start => 1,
-        Step::Outcome(_) => 1,
-        Step::Receive(_) => 1,
-        Step::ReceiveError(_, _) => 1,
-    }
-}
-
-// The register that a step reads or writes, Absent where it does neither.
-pub fn register_of(e: Step) -> Register
-    ensures { λ r. ⌜ r ≡ registers.registerAt (accesses.offsetOf e) ⌝ }
-{
-    let o = offset_of(e);
-    if o == 1 {
-        return Register::Absent;
-    }
-    register_at(o)
 }

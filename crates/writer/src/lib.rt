@@ -19,13 +19,21 @@ struct Packed {
     fits: bool,
 }
 
+// The bytes of the opening as a number, low byte first.
+fn opening() -> u64
+    ensures { λ r. ⌜ r ≡ 1 ⌝ }
+{
+    let bytes = OPENING;
+    bytes[0] as u64 + (bytes[1] as u64) * 256 + (bytes[2] as u64) * 65536
+}
+
 // The header is a number of three bytes: the tag, and 256 times the length of the body.
 fn pack(e: WideStep) -> Packed
     ensures { λ r. ⌜ packing.Packs (writer.stepSaid e) r ⌝ }
 {
     match e {
         WideStep::Reset => Packed {
-            low: 0x001,
+            low: opening(),
             high: 0,
             length: 3,
             fits: true,

@@ -8,17 +8,20 @@ use Rattle.writer.proofs.pack.Tie as tie
 enum-told : tie.Need-enum-told
 enum-told c = search needs
 
+opening-requires : tie.Need-opening-requires
+opening-requires c κs = search needs
+
 enum-known-e : tie.Need-enum-known-e
 enum-known-e c = search needs
 
-cast-t14 : tie.Need-cast-t14
-cast-t14 c = search needs
+cast-t15 : tie.Need-cast-t15
+cast-t15 c = search needs
 
-mul-t15 : tie.Need-mul-t15
-mul-t15 c = search needs
+mul-t16 : tie.Need-mul-t16
+mul-t16 c = search needs
 
-add-t16 : tie.Need-add-t16
-add-t16 c = search needs
+add-t17 : tie.Need-add-t17
+add-t17 c = search needs
 
 enum-known-e-2 : tie.Need-enum-known-e-2
 enum-known-e-2 c = search needs
@@ -35,11 +38,11 @@ mul-body c = search needs
 add-body : tie.Need-add-body
 add-body c = search needs
 
-mul-t21 : tie.Need-mul-t21
-mul-t21 c = search needs
+mul-t22 : tie.Need-mul-t22
+mul-t22 c = search needs
 
-add-t20 : tie.Need-add-t20
-add-t20 c = search needs
+add-t21 : tie.Need-add-t21
+add-t21 c = search needs
 
 enum-told-2 : tie.Need-enum-told-2
 enum-told-2 c = search needs
@@ -47,14 +50,14 @@ enum-told-2 c = search needs
 enum-known-e-3 : tie.Need-enum-known-e-3
 enum-known-e-3 c = search needs
 
-cast-t24 : tie.Need-cast-t24
-cast-t24 c = search needs
+cast-t25 : tie.Need-cast-t25
+cast-t25 c = search needs
 
-mul-t25 : tie.Need-mul-t25
-mul-t25 c = search needs
+mul-t26 : tie.Need-mul-t26
+mul-t26 c = search needs
 
-add-t26 : tie.Need-add-t26
-add-t26 c = search needs
+add-t27 : tie.Need-add-t27
+add-t27 c = search needs
 
 enum-told-3 : tie.Need-enum-told-3
 enum-told-3 c = search needs
@@ -65,14 +68,14 @@ enum-told-4 c = search needs
 enum-known-e-4 : tie.Need-enum-known-e-4
 enum-known-e-4 c = search needs
 
-cast-t28 : tie.Need-cast-t28
-cast-t28 c = search needs
+cast-t29 : tie.Need-cast-t29
+cast-t29 c = search needs
 
-mul-t29 : tie.Need-mul-t29
-mul-t29 c = search needs
+mul-t30 : tie.Need-mul-t30
+mul-t30 c = search needs
 
-add-t30 : tie.Need-add-t30
-add-t30 c = search needs
+add-t31 : tie.Need-add-t31
+add-t31 c = search needs
 
 enum-known-e-5 : tie.Need-enum-known-e-5
 enum-known-e-5 c = search needs
@@ -89,23 +92,23 @@ mul-body-2 c = search needs
 add-body-2 : tie.Need-add-body-2
 add-body-2 c = search needs
 
-mul-t32 : tie.Need-mul-t32
-mul-t32 c = search needs
+mul-t33 : tie.Need-mul-t33
+mul-t33 c = search needs
 
-add-t35 : tie.Need-add-t35
-add-t35 c = search needs
+add-t36 : tie.Need-add-t36
+add-t36 c = search needs
 
-cast-t34 : tie.Need-cast-t34
-cast-t34 c = search needs
+cast-t35 : tie.Need-cast-t35
+cast-t35 c = search needs
 
-cast-t36 : tie.Need-cast-t36
-cast-t36 c = search needs
+cast-t37 : tie.Need-cast-t37
+cast-t37 c = search needs
 
-mul-t37 : tie.Need-mul-t37
-mul-t37 c = search needs
+mul-t38 : tie.Need-mul-t38
+mul-t38 c = search needs
 
-add-t38 : tie.Need-add-t38
-add-t38 c = search needs
+add-t39 : tie.Need-add-t39
+add-t39 c = search needs
 
 enum-known-e-6 : tie.Need-enum-known-e-6
 enum-known-e-6 c = search needs
@@ -122,14 +125,14 @@ mul-body-3 c = search needs
 add-body-3 : tie.Need-add-body-3
 add-body-3 c = search needs
 
-mul-t41 : tie.Need-mul-t41
-mul-t41 c = search needs
+mul-t42 : tie.Need-mul-t42
+mul-t42 c = search needs
 
-add-t44 : tie.Need-add-t44
-add-t44 c = search needs
+add-t45 : tie.Need-add-t45
+add-t45 c = search needs
 
 returns : tie.Need-returns
-returns c = rw (c .enum-told .given .1) (plain .0)
+returns c = rw (c .before .enum-told .given .1, c .opening .ensures) (plain .0)
 
 returns-2 : tie.Need-returns-2
 returns-2 c = rw (c .before .e .given .1) (read-packs (c .before .e .given .0 .0))
@@ -166,46 +169,47 @@ pack-spec =
     tie.close
     (tie.spec
     enum-told
+    opening-requires
     enum-known-e
-    cast-t14
-    mul-t15
-    add-t16
+    cast-t15
+    mul-t16
+    add-t17
     enum-known-e-2
     cast-body
     cast-body-2
     mul-body
     add-body
-    mul-t21
-    add-t20
+    mul-t22
+    add-t21
     enum-told-2
     enum-known-e-3
-    cast-t24
-    mul-t25
-    add-t26
+    cast-t25
+    mul-t26
+    add-t27
     enum-told-3
     enum-told-4
     enum-known-e-4
-    cast-t28
-    mul-t29
-    add-t30
+    cast-t29
+    mul-t30
+    add-t31
     enum-known-e-5
     cast-body-3
     cast-body-4
     mul-body-2
     add-body-2
-    mul-t32
-    add-t35
-    cast-t34
-    cast-t36
-    mul-t37
-    add-t38
+    mul-t33
+    add-t36
+    cast-t35
+    cast-t37
+    mul-t38
+    add-t39
     enum-known-e-6
     cast-body-5
     cast-body-6
     mul-body-3
     add-body-3
-    mul-t41
-    add-t44
+    mul-t42
+    add-t45
     returns
     returns-2
     returns-3

@@ -7,7 +7,7 @@ use Rattle.model.proofs.Step.{the-type}
 use Rattle.model.specs.Registers.{registerAt, controlRegister}
 use Rattle.model.specs.declared.Step.{Step}
 use Rattle.model.specs.declared.Step.the-variants.{Reset, Read, Write, Idle, BitTimes, Activity, Start, Outcome, Receive, ReceiveError}
-use Rattle.registers.specs.Accesses.{offsetOf}
+use Rattle.account.specs.Accesses.{offsetOf}
 use Rattle.account.specs.Places.{place, placeOf}
 use borrow.Author.Needs.{needs}
 use Rattle.account.proofs.places.of_step.Statement.{statement}

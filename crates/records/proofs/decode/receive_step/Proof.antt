@@ -1,15 +1,7 @@
+-- The frame field by field.
 use borrow.Author.Needs.{needs}
 use Rattle.records.proofs.decode.receive_step.Statement.{statement}
 use Rattle.records.proofs.decode.receive_step.Tie as tie
-
-add-j : tie.Need-add-j
-add-j c = search needs
-
-add-k : tie.Need-add-k
-add-k c = search needs
-
-add-m : tie.Need-add-m
-add-m c = search needs
 
 number32-requires : tie.Need-number32-requires
 number32-requires c κs = search needs
@@ -29,12 +21,4 @@ returns c = simp (c .number323 .ensures, c .before .number322 .ensures, c .befor
 pub receive-step-spec : {M : Type 1} → statement M
 receive-step-spec =
     tie.close
-    (tie.spec
-    add-j
-    add-k
-    add-m
-    number32-requires
-    shared-slice-read-length
-    number32-requires-2
-    number32-requires-3
-    returns)
+    (tie.spec number32-requires shared-slice-read-length number32-requires-2 number32-requires-3 returns)
