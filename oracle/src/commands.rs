@@ -98,6 +98,11 @@ pub fn run(words: &[&str]) -> Status {
         ["coverage", seeds, records, kind] => {
             crate::coverage::report(number(seeds)?, number(records)?, Some(kind_named(kind)?))
         }
+        #[cfg(linked)]
+        ["calls", seed, count] => {
+            crate::random_calls::report(number(seed)?, number(count)?, &mut crate::linked::Linked)
+        }
+        ["calls", ..] => Err("calls is in the binary built with --cfg linked and an archive".into()),
         ["tell-apart", ..] => Err("tell-apart is in the binary built with --cfg wrong".into()),
         ["coverage", ..] => Err("coverage is in the binary built with --cfg coverage".into()),
         _ => Err(USAGE.into()),

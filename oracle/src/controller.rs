@@ -1,6 +1,7 @@
 //! The bench controller of document 01: one bxCAN, changed in place by
 //! register accesses and bus events.
 
+use crate::block::{self, ControlFields, ErrorFields, Fields};
 use crate::fifo::{Fifo, Frame, Stored};
 use crate::filter::Filters;
 use crate::here;
@@ -293,6 +294,67 @@ impl Controller {
             return recall(Slot::TxfpAtRequest);
         }
         self.option(mcr::TXFP) != made(Mistake::PriorityReversed)
+    }
+}
+
+/// The state block.
+impl Controller {
+    /// The numbers of docs/BLOCK.md.
+    pub fn fields(&self) -> Fields {
+        let (mailboxes, requests) = self.transmitter.fields();
+        let (filters, banks) = self.filters.fields();
+        Fields {
+            control: ControlFields {
+                mcr: self.mcr,
+                ier: self.ier,
+                btr: self.btr,
+                timer: self.timer as u32,
+                mode: match self.mode {
+                    Mode::Normal => block::NORMAL,
+                    Mode::Initialization => block::INITIALIZATION,
+                    Mode::Sleep => block::SLEEP,
+                },
+                recovery_count: self.recovery_count as u32,
+                // Outside bus-off it says nothing: the next bus-off forgets it.
+                initialized_since_bus_off: (self.initialized_since_bus_off
+                    && (self.is_bus_off() || made(Mistake::InitializedSavedOutsideBusOff)))
+                    as u32,
+                erri: self.has(msr::ERRI) as u32,
+                wkui: self.has(msr::WKUI) as u32,
+                slaki: self.has(msr::SLAKI) as u32,
+            },
+            errors: ErrorFields { tec: self.tec as u32, rec: self.rec as u32, lec: self.lec as u32 },
+            mailboxes,
+            requests,
+            fifos: self.fifos.map(|fifo| fifo.fields()),
+            filters,
+            banks,
+        }
+    }
+
+    /// The state that has these numbers.
+    pub fn with_fields(fields: &Fields) -> Controller {
+        let ControlFields { mcr, ier, btr, timer, mode, erri, wkui, slaki, .. } = fields.control;
+        Controller {
+            mcr,
+            mode: match mode {
+                block::NORMAL => Mode::Normal,
+                block::INITIALIZATION => Mode::Initialization,
+                _ => Mode::Sleep,
+            },
+            flags: block::bit(erri, msr::ERRI) | block::bit(wkui, msr::WKUI) | block::bit(slaki, msr::SLAKI),
+            ier,
+            btr,
+            tec: fields.errors.tec as u16,
+            rec: fields.errors.rec as u16,
+            lec: fields.errors.lec as u8,
+            timer: timer as u16,
+            recovery_count: fields.control.recovery_count as u8,
+            initialized_since_bus_off: fields.control.initialized_since_bus_off != 0,
+            transmitter: Transmitter::with_fields(&fields.mailboxes, &fields.requests),
+            fifos: fields.fifos.map(Fifo::with_fields),
+            filters: Filters::with_fields(&fields.filters, &fields.banks),
+        }
     }
 }
 

@@ -12,6 +12,7 @@ use crate::lesson_lines::lesson_lines;
 use crate::lesson_text;
 use crate::malformed::broken_script;
 use crate::openings::openings;
+use crate::random_calls::{self, Itself};
 use crate::registers::{mcr, Register, FIFOS};
 use crate::replies::read_reply;
 use crate::script::{decode, step, Step, CODE_SHORT, REPLY_LENGTH};
@@ -20,7 +21,7 @@ use std::collections::BTreeMap;
 use std::sync::atomic::{AtomicU64, Ordering::Relaxed};
 
 /// The sources that carry marks.
-const SOURCES: [(&str, &str); 14] = [
+const SOURCES: [(&str, &str); 16] = [
     ("controller.rs", include_str!("controller.rs")),
     ("mailbox.rs", include_str!("mailbox.rs")),
     ("fifo.rs", include_str!("fifo.rs")),
@@ -35,6 +36,8 @@ const SOURCES: [(&str, &str); 14] = [
     ("text_reader.rs", include_str!("text_reader.rs")),
     ("lesson_text.rs", include_str!("lesson_text.rs")),
     ("text_writer.rs", include_str!("text_writer.rs")),
+    ("block.rs", include_str!("block.rs")),
+    ("calls.rs", include_str!("calls.rs")),
 ];
 
 const MOST_LINES: usize = 2048;
@@ -66,9 +69,10 @@ pub fn report(seeds: u64, records: u64, only: Option<Kind>) -> Result<u8, String
     (0..400).for_each(|index| meetings.note_replies(&broken_replies(1, index)));
     openings().iter().for_each(|lesson| meetings.note_lesson(lesson));
     run_texts();
+    let unmet = run_calls();
     let branches = report_branches();
     let missing = meetings.report();
-    Ok((branches + missing > 0) as u8)
+    Ok((branches + missing + unmet > 0) as u8)
 }
 
 /// Replays a script, noting what each step meets. Every seventh call has too
@@ -106,6 +110,16 @@ fn run_texts() {
     texts.iter().for_each(|text| _ = lesson_text::read(text));
     text_writer::write(&generate(1, 3000, Kind::Any));
     (0..400).for_each(|index| _ = text_writer::write(&broken_script(1, index)));
+}
+
+/// Random calls; gives how much of what they must meet they don't.
+fn run_calls() -> usize {
+    let missing = match random_calls::compare(1, 20_000, &mut Itself) {
+        Ok(tally) => tally.missing(),
+        Err(difference) => vec![format!("the same answer to {}", difference.in_words())],
+    };
+    missing.iter().for_each(|text| println!("never met by calls: {text}"));
+    missing.len()
 }
 
 fn report_branches() -> usize {

@@ -1,5 +1,6 @@
 //! A receive FIFO of three frames and its output mailbox.
 
+use crate::block::{bit, FifoFields};
 use crate::here;
 use crate::probe::{made, recall, remember, Mistake, Slot};
 use crate::registers::{identifier, length_time, rfr, FIFO_DEPTH};
@@ -167,6 +168,31 @@ impl Fifo {
         }
         if made(Mistake::MasterResetKeepsFifos) {
             *self = before;
+        }
+    }
+}
+
+/// The state block.
+impl Fifo {
+    /// Places past the number of frames are zeros.
+    pub fn fields(&self) -> FifoFields {
+        let mut places = self.frames;
+        if !made(Mistake::StaleFramesSaved) {
+            places[self.pending..].fill(Stored::default());
+        }
+        FifoFields {
+            places,
+            pending: self.pending as u32,
+            full: (self.flags & rfr::FULL != 0) as u32,
+            overrun: (self.flags & rfr::FOVR != 0) as u32,
+        }
+    }
+
+    pub fn with_fields(fields: FifoFields) -> Fifo {
+        Fifo {
+            frames: fields.places,
+            pending: FIFO_DEPTH.min(fields.pending as usize),
+            flags: bit(fields.full, rfr::FULL) | bit(fields.overrun, rfr::FOVR),
         }
     }
 }

@@ -1,5 +1,6 @@
 //! The fourteen filter banks: configuration, numbering and search.
 
+use crate::block::FilterFields;
 use crate::here;
 use crate::probe::{made, Mistake};
 use crate::registers::{identifier, BANKS, FIFOS, FILTER_WORD};
@@ -282,6 +283,36 @@ impl Filters {
             here!();
         }
         hit.min(other)
+    }
+}
+
+/// The state block.
+impl Filters {
+    pub fn fields(&self) -> (FilterFields, [[u32; 2]; BANKS]) {
+        let mut banks = [[0; 2]; BANKS];
+        banks.copy_from_slice(&self.values[..BANKS]);
+        let words = FilterFields {
+            mode: self.mode,
+            scale: self.scale,
+            assignment: self.assignment,
+            activation: self.activation,
+            initializing: self.initializing as u32,
+        };
+        (words, banks)
+    }
+
+    pub fn with_fields(words: &FilterFields, banks: &[[u32; 2]; BANKS]) -> Filters {
+        let mut filters = Filters {
+            initializing: words.initializing != 0,
+            mode: words.mode,
+            scale: words.scale,
+            assignment: words.assignment,
+            activation: words.activation,
+            ..Filters::at_reset()
+        };
+        filters.values[..BANKS].copy_from_slice(banks);
+        filters.number_banks();
+        filters
     }
 }
 

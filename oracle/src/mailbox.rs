@@ -1,5 +1,6 @@
 //! The three transmit mailboxes: requests, their order, and TSR.
 
+use crate::block::{bit, MailboxFields, RequestFields, NO_MAILBOX};
 use crate::fifo::Frame;
 use crate::here;
 use crate::probe::{made, Mistake};
@@ -437,5 +438,77 @@ impl Transmitter {
         for mailbox in &mut self.mailboxes {
             mailbox.drop_request();
         }
+    }
+}
+
+/// The state block.
+impl Mailbox {
+    fn fields(&self) -> MailboxFields {
+        MailboxFields {
+            identifier: self.identifier | (made(Mistake::TxrqSaved) && self.requested) as u32,
+            length_time: self.length_time,
+            data_low: self.data_low,
+            data_high: self.data_high,
+            rqcp: self.has(tsr::RQCP) as u32,
+            txok: self.has(tsr::TXOK) as u32,
+            alst: self.has(tsr::ALST) as u32,
+            terr: self.has(tsr::TERR) as u32,
+        }
+    }
+
+    /// Without a request.
+    fn with_fields(fields: &MailboxFields) -> Mailbox {
+        Mailbox {
+            identifier: fields.identifier,
+            length_time: fields.length_time,
+            data_low: fields.data_low,
+            data_high: fields.data_high,
+            requested: false,
+            request: 0,
+            status: bit(fields.rqcp, tsr::RQCP)
+                | bit(fields.txok, tsr::TXOK)
+                | bit(fields.alst, tsr::ALST)
+                | bit(fields.terr, tsr::TERR),
+        }
+    }
+}
+
+impl Transmitter {
+    pub fn fields(&self) -> ([MailboxFields; MAILBOXES], RequestFields) {
+        let mut order = [NO_MAILBOX; MAILBOXES];
+        let mut waiting: Vec<usize> = (0..MAILBOXES).filter(|&x| self.mailboxes[x].requested).collect();
+        if !made(Mistake::OrderSavedByMailbox) {
+            waiting.sort_by_key(|&x| self.mailboxes[x].request);
+        }
+        waiting.iter().zip(&mut order).for_each(|(&x, place)| *place = x as u32);
+        let requests = RequestFields {
+            order,
+            on_wire: self.on_wire.map_or(NO_MAILBOX, |x| x as u32),
+            aborts: self.mailboxes.map(|mailbox| mailbox.has(tsr::ABRQ) as u32),
+        };
+        (self.mailboxes.map(|mailbox| mailbox.fields()), requests)
+    }
+
+    /// The requests are accepted anew, in their order.
+    pub fn with_fields(mailboxes: &[MailboxFields; MAILBOXES], requests: &RequestFields) -> Transmitter {
+        let named = |x: u32| (x < NO_MAILBOX).then_some(x as usize);
+        let mut transmitter = Transmitter {
+            mailboxes: [0, 1, 2].map(|x| Mailbox::with_fields(&mailboxes[x])),
+            on_wire: named(requests.on_wire),
+            requests: 0,
+        };
+        let mut order: Vec<usize> = requests.order.into_iter().filter_map(named).collect();
+        if made(Mistake::OrderLoadedBackwards) {
+            order.reverse();
+        }
+        for x in order {
+            transmitter.requests += 1;
+            transmitter.mailboxes[x].requested = true;
+            transmitter.mailboxes[x].request = transmitter.requests;
+        }
+        for x in (0..MAILBOXES).filter(|&x| requests.aborts[x] != 0) {
+            transmitter.mailboxes[x].set(tsr::ABRQ);
+        }
+        transmitter
     }
 }

@@ -3,7 +3,17 @@
 #![allow(unexpected_cfgs)]
 
 mod bad_lines;
+#[cfg_attr(not(linked), allow(dead_code))]
+mod block;
+#[cfg(test)]
+mod block_tests;
 mod broken_replies;
+#[cfg_attr(not(linked), allow(dead_code))]
+mod call_difference;
+#[cfg_attr(not(linked), allow(dead_code))]
+mod call_tally;
+#[cfg_attr(not(linked), allow(dead_code))]
+mod calls;
 mod can_frame;
 mod commands;
 mod comparisons;
@@ -19,11 +29,17 @@ mod generate;
 mod lesson;
 mod lesson_lines;
 mod lesson_text;
+#[cfg(linked)]
+mod linked;
 mod mailbox;
 mod malformed;
 mod openings;
 mod probe;
 mod race;
+#[cfg_attr(not(linked), allow(dead_code))]
+mod random_blocks;
+#[cfg_attr(not(linked), allow(dead_code))]
+mod random_calls;
 mod registers;
 mod replies;
 mod requests;
@@ -64,6 +80,8 @@ const USAGE: &str = "usage:
   oracle race A B SCRIPT ROUNDS          the times of commands A and B, and their ratio
   oracle words                           script on standard input, in words
   oracle wrong-list                      the wrong variants by number
+ built with --cfg linked and an archive:
+  oracle-calls calls SEED COUNT          COUNT random calls on blocks, the archive against the second implementation
  built with --cfg wrong:
   oracle-wrong replay [--lesson]|check|compared|encode|replies|write|text|expects --wrong K  a wrong variant
   oracle-wrong tell-apart SEEDS RECORDS  where each variant differs from the right one

@@ -32,6 +32,25 @@ pub struct Requests {
 }
 
 impl Requests {
+    /// The book of a history from a loaded block: its requests count as
+    /// accepted at loading.
+    #[cfg(test)]
+    pub fn loaded(fields: &crate::block::Fields) -> Requests {
+        let on_wire = fields.requests.on_wire as usize;
+        let mut book = Requests {
+            abort_mark: fields.requests.aborts.map(|flag| flag != 0),
+            on_wire: (on_wire < MAILBOXES).then_some(on_wire),
+            nart: fields.control.mcr & mcr::NART != 0,
+            txfp: fields.control.mcr & mcr::TXFP != 0,
+            ..Requests::default()
+        };
+        for x in (0..MAILBOXES).filter(|&x| fields.requests.names(x)) {
+            book.accepted += 1;
+            book.outstanding[x] = Some(Request::accepted_at(0));
+        }
+        book
+    }
+
     /// Feeds one step. An error is a violation of demand 3, in words.
     pub fn feed(&mut self, record: u64, step: Step, answer: Answer) -> Result<(), String> {
         if answer.code != 0 {
@@ -61,8 +80,7 @@ impl Requests {
             }
             Some(Register::Mailbox(x, MailboxWord::Identifier)) if word & 1 != 0 => {
                 self.accepted += 1;
-                self.outstanding[x] =
-                    Some(Request { record, request_order: true, others_ended_on_wire: 0, frames_ended_well: 0 });
+                self.outstanding[x] = Some(Request::accepted_at(record));
             }
             Some(Register::Tsr) => self.feed_aborts(word),
             _ => {}
@@ -136,6 +154,10 @@ impl Requests {
 }
 
 impl Request {
+    fn accepted_at(record: u64) -> Request {
+        Request { record, request_order: true, others_ended_on_wire: 0, frames_ended_well: 0 }
+    }
+
     fn check(&self, x: usize) -> Result<(), String> {
         if !self.request_order {
             return Ok(());

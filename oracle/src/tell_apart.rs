@@ -1,10 +1,12 @@
 //! Shows for each wrong variant a script on which its replies differ from
 //! the right ones, or how many filters it says that a search compares, or
 //! another answer of the writer, the reply reader or the lesson reader, or
-//! other bytes, another fault or another text of a lesson.
+//! other bytes, another fault or another text of a lesson, or a call on a block
+//! that it answers otherwise.
 
 use crate::bad_lines::{bad_lines, edge_texts, repeat_of};
 use crate::broken_replies::broken_replies;
+use crate::calls;
 use crate::comparisons;
 use crate::controller::{Answer, Controller};
 use crate::encode::{self, ANSWER_LENGTH, REQUEST_LENGTH};
@@ -14,10 +16,12 @@ use crate::lesson_lines::lesson_lines;
 use crate::lesson_text::{script_of, Script};
 use crate::malformed::broken_script;
 use crate::openings::openings;
-use crate::probe::{switch_to, MISTAKES};
+use crate::probe::{current, switch_to, MISTAKES};
+use crate::random_calls::{self, Library};
 use crate::replies::read_reply;
 use crate::script::{step, Progress, Unreadable, CODE_SHORT, REPLY_LENGTH};
 use crate::text_writer;
+use crate::writer::WideStep;
 
 /// Enough to pass 65,536 requests.
 const REQUEST_RECORDS: u64 = 140_000;
@@ -27,6 +31,7 @@ const BROKEN_REPLIES: u64 = 600;
 const LESSON_LINES: u64 = 2000;
 const BAD_LINES: u64 = 1000;
 const WORDED_RECORDS: u64 = 3000;
+const RANDOM_CALLS: u64 = 20_000;
 
 /// Something that a wrong variant may answer otherwise.
 trait Case {
@@ -210,6 +215,39 @@ fn replay(script: &[u8], mut take: impl FnMut(u64, &[u8; REPLY_LENGTH]) -> bool)
     }
 }
 
+/// Random calls, the wrong variant being the library.
+struct CallsCase {
+    seed: u64,
+}
+
+impl Case for CallsCase {
+    fn difference(&self) -> Option<String> {
+        let mut variant = Variant(current());
+        switch_to(0);
+        let difference = random_calls::compare(self.seed, RANDOM_CALLS, &mut variant).err()?;
+        Some(format!("calls seed {}, {}", self.seed, difference.in_words()))
+    }
+}
+
+/// A wrong variant, switched on for its own calls only.
+struct Variant(u32);
+
+impl Library for Variant {
+    fn block_size(&mut self, board: u32) -> usize {
+        switch_to(self.0);
+        let size = calls::block_size(board);
+        switch_to(0);
+        size
+    }
+
+    fn call(&mut self, board: u32, block: &mut [u8], step: WideStep) -> u64 {
+        switch_to(self.0);
+        let answer = calls::call(board, block, step);
+        switch_to(0);
+        answer
+    }
+}
+
 pub fn tell_apart(seeds: u64, records: u64) -> Result<u8, String> {
     switch_to(0);
     let mix: Vec<ScriptCase> = (1..=seeds).map(|seed| generated("mix", Kind::Mix, seed, records)).collect();
@@ -251,6 +289,7 @@ fn other_cases(seeds: u64, records: u64) -> Vec<Box<dyn Case>> {
     cases.extend((0..BROKEN_REPLIES).map(reply_case));
     cases.extend(openings().into_iter().enumerate().flat_map(|(index, lesson)| lesson_cases(index, lesson)));
     cases.extend(text_cases());
+    cases.push(Box::new(CallsCase { seed: 1 }));
     cases.extend(special_cases(seeds, records));
     cases.extend(count_cases(seeds, records));
     cases
