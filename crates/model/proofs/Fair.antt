@@ -10,20 +10,20 @@ use Rattle.model.specs.Queue.{flag, holds, joined}
 use Rattle.model.specs.Control.{txfp, controlReset}
 use Rattle.model.specs.Registers.{reset, registerAt, controlRegister}
 use Rattle.model.specs.Step.{step, answered, refusal}
-use Rattle.model.specs.Reachable.{InRange, distinct, carried}
+use Rattle.model.specs.Reachable.{InRange, carried}
 use Rattle.model.specs.Requests.{Event, nothing, drops, modes, accepts, aborts, starts, ends, Entry, Requests, noneYet, next, requestsAfter, after, entries, event, entry}
 use Rattle.model.specs.Shown.{tme}
 use Rattle.model.specs.Fairness.{isDrop, inOrder, Moment, meanwhile, hasEnded, underRequestOrder, otherEnds, otherEnd, isGood, endsWell, every, count, Served, Fairness, requestsFrom, entriesBehind}
 use Rattle.model.specs.declared.Mailbox.{Mailbox}
 use Rattle.model.specs.declared.Sender.{Sender}
 use Rattle.model.specs.declared.Sender.the-variants.{Nobody, From}
-use Rattle.model.specs.declared.RequestOrder.{RequestOrder}
+use Rattle.model.specs.declared.Queue.{Queue}
 use Rattle.model.specs.declared.Controller.{Controller}
 use Rattle.model.specs.declared.Step as steps
 use Rattle.model.specs.declared.Step.the-variants.{Read}
 use Rattle.base.proofs.Choices.{Is, Not, Is-not, and-l, and-r}
-use Rattle.model.proofs.Orders.{ahead, ahead-two, flag-out, holds-joined, last-joined}
-use Rattle.model.proofs.Views.{View, viewNext, Granted, Sound, requestsOf, requests-follow, sound-next, Waits, inFront, Turn, over, on, turn}
+use Rattle.model.proofs.Orders.{ahead, ahead-two, rank-two, flag-out, holds-joined}
+use Rattle.model.proofs.Views.{View, viewNext, Granted, Sound, requestsOf, requests-follow, sound-next, Waits, inFront, rank, Turn, over, on, turn}
 use Rattle.model.proofs.Follows.{viewOf, follows}
 use Rattle.model.proofs.StatusWord.{flags-shown}
 
@@ -119,7 +119,7 @@ unfolding every
 every-tail p x l h = and-r (p x) (every p l) h
 
 abbrev Promise : Mailbox → List Entry → View → Type 0
-Promise m es d = every underRequestOrder (meanwhile m (requestsOf d) es) ≡ true → Shown m (requestsOf d) es (ahead m (d .queue .order))
+Promise m es d = every underRequestOrder (meanwhile m (requestsOf d) es) ≡ true → Shown m (requestsOf d) es (rank (d .queue) m)
 
 outstanding-held : (d : View) (m : Mailbox) (b : Bool) → holds (d .queue .order) m ≡ b → flag (requestsOf d .outstanding) m ≡ b
 outstanding-held d m b h = flag-out (d .queue .order) m ∙ h
@@ -137,13 +137,13 @@ advance : (m : Mailbox) (d : View) (e : Entry) (es : List Entry) → Not (isDrop
     → Turn (d .queue) (viewNext d (event e) .queue) m (otherEnd m (event e) (requestsOf d)) (isGood (event e))
     → (Waits (viewNext d (event e) .queue) m → Promise m es (viewNext d (event e)))
     → every underRequestOrder (meanwhile m (next (requestsOf d) (event e)) es) ≡ true
-    → Shown m (requestsOf d) (e ∷ es) (ahead m (d .queue .order))
+    → Shown m (requestsOf d) (e ∷ es) (rank (d .queue) m)
 advance m d e es nd eq w (over gone o) ih h =
     finish m (requestsOf d) e es _ nd (outstanding-held d m true (w .held))
     (subst (λ (b : Requests). flag (b .outstanding) m ≡ false) (sym eq) (outstanding-held (viewNext d (event e)) m false (Is-not _ gone))) o
 advance m d e es nd eq w (on w′ l l′) ih h =
-    extend m (requestsOf d) e es _ (ahead m (viewNext d (event e) .queue .order)) nd (outstanding-held d m true (w .held))
-    (subst (λ (b : Requests). Shown m b es (ahead m (viewNext d (event e) .queue .order))) (sym eq)
+    extend m (requestsOf d) e es _ (rank (viewNext d (event e) .queue) m) nd (outstanding-held d m true (w .held))
+    (subst (λ (b : Requests). Shown m b es (rank (viewNext d (event e) .queue) m)) (sym eq)
     (ih w′ (subst (λ (b : Requests). every underRequestOrder (meanwhile m b es) ≡ true) eq h))) l l′
 
 -- while m waits
@@ -161,17 +161,18 @@ waits (s ∷ l) z m g w h =
     (subst (λ (d′ : View). Waits (d′ .queue) m → Promise m es d′) (follows z s .view) (waits l (step z s .controller) m (step-sound z s g)))
     (every-tail underRequestOrder _ _ h′)
 
--- ---- an accepted request waits, last of all
-
-front-last : (w : Sender) (o : RequestOrder) (m : Mailbox) → Is (distinct o) → Is (not (holds o m)) → Is (carried w o) → Is (inFront w m (joined o m))
-front-last Nobody o m d h c = refl
-front-last (From y) o m d h c = last-joined o d m y h c
+-- ---- an accepted request waits
 
 accepted-waits : (d : View) (m : Mailbox) → Sound (d .queue) → Is (not (holds (d .queue .order) m)) → Waits (viewNext d (accepts m) .queue) m
-accepted-waits d m g h = record {
-  held = holds-joined (d .queue .order) (g .once) m h;
-  front = front-last (d .queue .transmitting) (d .queue .order) m (g .once) h (g .wired);
-}
+accepted-waits d m g h = record { held = holds-joined (d .queue .order) (g .once) m h }
+
+-- at most two others can end on the wire before a request that waits
+few-before : (q : Queue) (m : Mailbox) → Sound q → Waits q m → rank q m ≤ 2
+few-before q m g w = go (q .transmitting) (g .wired)
+  where
+    go : (v : Sender) → Is (carried v (q .order)) → ahead m (q .order) + one (not (inFront v m (q .order))) ≤ 2
+    go Nobody c = omega (arith, ahead-two (q .order) m)
+    go (From x) c = rank-two (q .order) m x (g .once) (w .held) c
 
 served : (m : Mailbox) (b : Requests) (es : List Entry) (k : ℕ) → k ≤ 2 → Shown m b es k → Served m b es
 served m b es k l o = record { few = omega (arith, o .few); ended = go (o .ended) }
@@ -192,7 +193,13 @@ accepted rest z s m g e h =
     let at : view z′ ≡ viewNext d (accepts m) = follows z s .view ∙ ap (viewNext d) e in
     let new : Granted d (accepts m) = subst (Granted d) e (follows z s .granted) in
     let w : Waits (z′ .core .transmit .queue) m = subst (λ (x : View). Waits (x .queue) m) (sym at) (accepted-waits d m g new) in
-    served m _ _ _ (ahead-two (z′ .core .transmit .queue .order) m) (waits rest z′ m (step-sound z s g) w h)
+    served m _ _ _ (few-before (z′ .core .transmit .queue) m (step-sound z s g) w) (waits rest z′ m (step-sound z s g) w h)
+
+-- outstanding at the start
+pub good-held : (z : Controller) (l : List steps.Step) (m : Mailbox) → Good z → Is (flag (requestsOf (view z) .outstanding) m) → Claim (requestsOf (view z)) m (entries z l)
+good-held z l m g o h =
+    let w : Waits (z .core .transmit .queue) m = record { held = sym (flag-out (z .core .transmit .queue .order) m) ∙ o } in
+    served m _ _ _ (few-before (z .core .transmit .queue) m g w) (waits l z m g w h)
 
 pub after-append : (z : Controller) (l m : List steps.Step) → after z (l ++ m) ≡ after (after z l) m
 unfolding after
@@ -203,7 +210,7 @@ tsr-code : (z : Controller) → step z (Read 8) .code ≡ 0
 unfolding step answered refusal registerAt controlRegister
 tsr-code z = refl
 
--- ---- demand 3
+-- ---- demand 3, for every list of steps from any state whose request order names no mailbox twice and holds the one on the wire
 
 pub good-fair : (z : Controller) (l : List steps.Step) → Good z → Fairness z (requestsOf (view z)) l
 unfolding after
@@ -224,6 +231,6 @@ good-fair z l g = record {
     claim before s rest m a =
         rw (run-requests (before ++ s ∷ []) z g, after-append z before (s ∷ [])) (accepted rest (after z before) s m (run-sound before z g) a)
 
--- demand 3, for every list of steps from hardware reset
+-- the same from hardware reset
 pub fairness : (l : List steps.Step) → Fairness reset noneYet l
 fairness l = subst (λ (b : Requests). Fairness reset b l) reset-requests (good-fair reset l reset-sound)

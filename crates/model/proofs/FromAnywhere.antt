@@ -21,7 +21,7 @@ use Rattle.model.specs.declared.Reading.the-variants.{End, Malformed, Fo
 use Rattle.model.specs.declared.Step as steps
 use Rattle.model.specs.declared.Step.the-variants.{Reset, Read, Write, Idle, BitTimes, Activity, Start, Outcome, Receive, ReceiveError}
 use Rattle.model.proofs.Computed.{everything}
-use Rattle.model.proofs.Fair.{run-requests, after-append, good-fair, fairness, good}
+use Rattle.model.proofs.Fair.{run-requests, after-append, good-fair, good-held, fairness, good}
 use Rattle.model.proofs.Reached.{after-in-range, reachable}
 use Rattle.model.proofs.Tied.{tied}
 use Rattle.model.proofs.Replays.{steps-on, replays}
@@ -90,6 +90,7 @@ pub from-state : (z : Controller) (l : List steps.Step) → FromState z l
 from-state z l = record {
   held = λ r. run-requests l z (good z r);
   fair = λ r. good-fair z l (good z r);
+  served = λ r m. good-held z l m (good z r);
   reachable = after-in-range z l;
 }
 

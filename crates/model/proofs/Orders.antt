@@ -1,10 +1,10 @@
 -- Facts about the orders of three mailboxes, each by one computed test over all of them.
 use mathlib.Core.Bool.{Bool, true, false, not, _&&_, Bool·beq, false≢true}
 use mathlib.Core.Path.{_≡_, refl}
-use Prim.Native.Nat.{ℕ, suc, _≤_}
+use Prim.Native.Nat.{ℕ, suc, _+_, _≤_}
 use lib.Dec.{leb, eqb}
 use borrow.Author.Tests.{leb-true, eqb-true}
-use Rattle.base.specs.Base.{pick}
+use Rattle.base.specs.Base.{pick, one}
 use Rattle.model.specs.Queue.{same, flag, flagged, holds, joined, without, oldest, isFrom}
 use Rattle.model.specs.Reachable.{distinct}
 use Rattle.model.specs.declared.Mailbox.{Mailbox}
@@ -82,6 +82,10 @@ flags-eq f g h =
 pub ahead-two : (o : RequestOrder) (m : Mailbox) → ahead m o ≤ 2
 ahead-two o m = leb-true _ _ (each (λ o m x y. leb (ahead m o) 2) refl o m m m)
 
+-- ahead of m, and one more where x stands behind it: at most two others
+pub rank-two : (o : RequestOrder) (m x : Mailbox) → Is (distinct o) → Is (holds o m) → Is (holds o x) → ahead m o + one (not (leb (ahead x o) (ahead m o))) ≤ 2
+rank-two o m x d h k = leb-true _ _ (imp-Is (imp-Is (imp-Is (each (λ o m x y. imp (distinct o) (imp (holds o m) (imp (holds o x) (leb (ahead m o + one (not (leb (ahead x o) (ahead m o)))) 2)))) refl o m x x) d) h) k)
+
 pub flag-out : (o : RequestOrder) (m : Mailbox) → flag (outOf o) m ≡ holds o m
 flag-out o M0 = refl
 flag-out o M1 = refl
@@ -105,10 +109,6 @@ module _ (o : RequestOrder) (ok : Is (distinct o)) where
 
   pub holds-joined : (x : Mailbox) → Is (not (holds o x)) → Is (holds (joined o x) x)
   holds-joined x new = imp-Is (imp-Is (each (λ o x a b. imp (distinct o) (imp (not (holds o x)) (holds (joined o x) x))) refl o x x x) ok) new
-
-  -- one that joins stands behind all others
-  pub last-joined : (x y : Mailbox) → Is (not (holds o x)) → Is (holds o y) → Is (leb (ahead y (joined o x)) (ahead x (joined o x)))
-  last-joined x y new h = imp-Is (imp-Is (imp-Is (each (λ o x y b. imp (distinct o) (imp (not (holds o x)) (imp (holds o y) (leb (ahead y (joined o x)) (ahead x (joined o x)))))) refl o x y y) ok) new) h
 
   -- the order of y and m stays when x leaves
   pub still : (m x y : Mailbox) → Is (holds o m) → Is (holds o y) → Is (not (same x m)) → Is (not (same x y)) → Is (leb (ahead y o) (ahead m o))

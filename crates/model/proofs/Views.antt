@@ -2,7 +2,7 @@
 -- draws nearer to the wire.
 use mathlib.Core.Bool.{Bool, true, false, not, _&&_, _||_, false≢true, and-true, and-false}
 use mathlib.Core.Path.{_≡_, refl, sym, subst, ap, _∙_}
-use Prim.Native.Nat.{_≤_, _+_}
+use Prim.Native.Nat.{ℕ, _≤_, _+_}
 use native.Mathlib.Omega.{arith}
 use lib.Dec.{leb}
 use Rattle.base.specs.Base.{pick, one}
@@ -140,34 +140,43 @@ requests-follow d (aborts f) g k =
 requests-follow d (starts m) g k = refl
 requests-follow d (ends good) g k = end-follows (d .queue .transmitting) d good g
 
--- m waits, and none on the wire stands behind it
+-- none on the wire stands behind m
 abbrev pub inFront : Sender → Mailbox → RequestOrder → Bool
 inFront Nobody m o = true
 inFront (From x) m o = leb (ahead x o) (ahead m o)
 
+-- how many can end on the wire before m: those ahead of it, and one on the wire behind it, as after a start by identifier
+abbrev pub rank : Queue → Mailbox → ℕ
+rank q m = ahead m (q .order) + one (not (inFront (q .transmitting) m (q .order)))
+
 pub record Waits (q : Queue) (m : Mailbox) : Type 0 where
   pub held : Is (holds (q .order) m)
-  pub front : Is (inFront (q .transmitting) m (q .order))
 
 -- what an event does to m's request: it is over, or still waits, one place nearer where another's ended on the wire
 pub data Turn (q q′ : Queue) (m : Mailbox) (other good : Bool) : Type 0 where
   over : Is (not (holds (q′ .order) m)) → other ≡ false → Turn q q′ m other good
-  on : Waits q′ m → one other + ahead m (q′ .order) ≤ ahead m (q .order) → one good ≤ one other → Turn q q′ m other good
+  on : Waits q′ m → one other + rank q′ m ≤ rank q m → one good ≤ one other → Turn q q′ m other good
 
-front-joined : (w : Sender) (o : RequestOrder) (m x : Mailbox) → Is (carried w o) → Is (holds o m) → Is (inFront w m o) → Is (inFront w m (joined o x))
-front-joined Nobody o m x c h f = refl
-front-joined (From y) o m x c h f = rw (ahead-joined o y x c, ahead-joined o m x h) f
+front-joined : (w : Sender) (o : RequestOrder) (m x : Mailbox) → Is (carried w o) → Is (holds o m) → inFront w m (joined o x) ≡ inFront w m o
+front-joined Nobody o m x c h = refl
+front-joined (From y) o m x c h = rw (ahead-joined o y x c, ahead-joined o m x h)
 
 front-without : (w : Sender) (o : RequestOrder) (m x : Mailbox) → Is (distinct o) → Is (carried w o) → Is (holds o m) → Not (same x m) → Not (isFrom w x) → Is (inFront w m o) → Is (inFront w m (without o x))
 front-without Nobody o m x d c h n k f = refl
 front-without (From y) o m x d c h n k f = still o d m x y h c (not-Is n) (not-Is (same-comm x y ∙ k)) f
 
+-- what is in front stays in front
+fewer : (a b : Bool) → (Is a → Is b) → one (not b) ≤ one (not a)
+fewer true true h = omega arith
+fewer true false h = absurd (false≢true (h refl))
+fewer false b h = one-le (not b)
+
 -- another's request leaves, not from the wire
 leave-turn : (s : Bool) (q : Queue) (m x : Mailbox) → same x m ≡ s → Sound q → Waits q m → Not (isFrom (q .transmitting) x) → Turn q (emptied q x) m false false
 leave-turn true q m x e g w n = over (subst (λ (y : Mailbox). Is (not (holds (without (q .order) x) y))) (same-eq x m e) (gone-without (q .order) (g .once) x)) refl
 leave-turn false q m x e g w n =
-    on (record { held = kept-without (q .order) m x (w .held) (not-Is e); front = front-without (q .transmitting) (q .order) m x (g .once) (g .wired) (w .held) e n (w .front) })
-    (omega (arith, nearer (q .order) (g .once) m x (w .held) (not-Is e)))
+    on (record { held = kept-without (q .order) m x (w .held) (not-Is e) })
+    (omega (arith, nearer (q .order) (g .once) m x (w .held) (not-Is e), fewer _ _ (front-without (q .transmitting) (q .order) m x (g .once) (g .wired) (w .held) e n)))
     (omega arith)
 
 stay-turn : (q : Queue) (m : Mailbox) → Waits q m → Turn q q m false false
@@ -178,7 +187,7 @@ unfolding aborted
 abort-turn a q m x g w =
     pick-cases (λ (q′ : Queue). Turn q q′ m false false) (a && holds (q .order) x) _ _
     (λ _. pick-cases (λ (q′ : Queue). Turn q q′ m false false) (isFrom (q .transmitting) x) _ _
-    (λ _. on (record { held = w .held; front = w .front }) (omega arith) (omega arith))
+    (λ _. on (record { held = w .held }) (omega arith) (omega arith))
     (λ n. leave-turn (same x m) q m x refl g w n))
     (λ _. stay-turn q m w)
 
@@ -197,21 +206,25 @@ then-abort a q q′ m x g (on w l k) = go (abort-turn a q′ m x g w)
     go (over h e) = over h refl
     go (on w′ l′ k′) = on w′ (omega arith) (omega arith)
 
--- the one on the wire leaves
+-- the one on the wire leaves, from in front of m or from behind it
+nearer-by-one : (b : Bool) (q : Queue) (m x : Mailbox) → inFront (From x) m (q .order) ≡ b → Is (carried (From x) (q .order)) → Sound q → Waits q m → Not (same x m)
+    → 1 + ahead m (without (q .order) x) ≤ ahead m (q .order) + one (not b)
+nearer-by-one true q m x f c g w e = omega (arith, one-nearer (q .order) (g .once) m x (w .held) c (not-Is e) f)
+nearer-by-one false q m x f c g w e = omega (arith, nearer (q .order) (g .once) m x (w .held) (not-Is e))
+
 wire-turn : (s good : Bool) (q : Queue) (m x : Mailbox) → same x m ≡ s → Sound q → Waits q m → q .transmitting ≡ From x → Turn q (emptied (freed q) x) m (not s) good
 wire-turn true good q m x e g w p = over (subst (λ (y : Mailbox). Is (not (holds (without (q .order) x) y))) (same-eq x m e) (gone-without (q .order) (g .once) x)) refl
 wire-turn false good q m x e g w p =
     let c : Is (carried (From x) (q .order)) = subst (λ (v : Sender). Is (carried v (q .order))) p (g .wired) in
-    let f : Is (inFront (From x) m (q .order)) = subst (λ (v : Sender). Is (inFront v m (q .order))) p (w .front) in
-    on (record { held = kept-without (q .order) m x (w .held) (not-Is e); front = refl })
-    (omega (arith, one-nearer (q .order) (g .once) m x (w .held) c (not-Is e) f))
-    (one-le good)
+    let l : 1 + ahead m (without (q .order) x) ≤ ahead m (q .order) + one (not (inFront (q .transmitting) m (q .order))) =
+    subst (λ (v : Sender). 1 + ahead m (without (q .order) x) ≤ ahead m (q .order) + one (not (inFront v m (q .order)))) (sym p) (nearer-by-one (inFront (From x) m (q .order)) q m x refl c g w e) in
+    on (record { held = kept-without (q .order) m x (w .held) (not-Is e) }) (omega arith) (one-le good)
 
 end-choice : (b good : Bool) (q : Queue) (m x : Mailbox) → (Is good → Is b) → Sound q → Waits q m → q .transmitting ≡ From x → Turn q (offWire q x b) m (not (same x m) && b) good
 unfolding offWire
 end-choice true good q m x k g w p = rw and-true (wire-turn (same x m) good q m x refl g w p)
 end-choice false true q m x k g w p = absurd (false≢true (k refl))
-end-choice false false q m x k g w p = rw and-false (on (record { held = w .held; front = refl }) (omega arith) (omega arith))
+end-choice false false q m x k g w p = rw and-false (on (record { held = w .held }) (omega arith) (omega arith))
 
 end-turn : (v : Sender) (d : View) (good : Bool) (m : Mailbox) → d .queue .transmitting ≡ v → Is (not (isNobody v)) → Sound (d .queue) → Waits (d .queue) m
     → Turn (d .queue) (offView v d good .queue) m (otherOn m v (requestsOf d) good) good
@@ -225,7 +238,9 @@ turn d nothing m g k w c = stay-turn (d .queue) m w
 turn d drops m g k w c = absurd (false≢true c)
 turn d (modes a t) m g k w c = stay-turn (d .queue) m w
 turn d (accepts x) m g k w c =
-    on (record { held = kept-joined (d .queue .order) m x (w .held); front = front-joined (d .queue .transmitting) (d .queue .order) m x (g .wired) (w .held) (w .front) })
+    let f = front-joined (d .queue .transmitting) (d .queue .order) m x (g .wired) (w .held) in
+    let l : one (not (inFront (d .queue .transmitting) m (joined (d .queue .order) x))) ≡ one (not (inFront (d .queue .transmitting) m (d .queue .order))) = ap (λ (b : Bool). one (not b)) f in
+    on (record { held = kept-joined (d .queue .order) m x (w .held) })
     (omega (arith, ahead-joined (d .queue .order) m x (w .held)))
     (omega arith)
 turn d (aborts f) m g k w c =
@@ -233,5 +248,6 @@ turn d (aborts f) m g k w c =
     (then-abort (f .m1) (d .queue) _ m M1 (aborted-sound (f .m0) _ M0 g)
     (abort-turn (f .m0) (d .queue) m M0 g w))
 turn d (starts x) m g k w c =
-    on (record { held = w .held; front = oldest-first (d .queue .order) m x (k .oldest c) (w .held) }) (omega arith) (omega arith)
+    let f : one (not (leb (ahead x (d .queue .order)) (ahead m (d .queue .order)))) ≡ 0 = ap (λ (b : Bool). one (not b)) (oldest-first (d .queue .order) m x (k .oldest c) (w .held)) in
+    on (record { held = w .held }) (omega arith) (omega arith)
 turn d (ends good) m g k w c = end-turn (d .queue .transmitting) d good m refl k g w

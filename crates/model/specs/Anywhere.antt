@@ -1,5 +1,6 @@
 -- The promises about lists of steps, said of what callers and scripts can give, and behind a hardware reset in a list that
 -- begins anywhere. Document 01: "Register map" (hardware reset), "Bench script", "How far each contract reaches".
+use mathlib.Core.Bool.{true}
 use mathlib.Core.List.{List, [], _∷_, _++_}
 use mathlib.Core.Path.{_≡_}
 use Prim.Native.Nat.{ℕ, _-_, _≤_}
@@ -7,13 +8,15 @@ use Rattle.model.specs.Control.{nart, txfp}
 use Rattle.model.specs.Registers.{reset, hasRequest}
 use Rattle.model.specs.Step.{step}
 use Rattle.model.specs.Shown.{Done, nextOf}
-use Rattle.model.specs.Requests.{Requests, noneYet, after}
-use Rattle.model.specs.Fairness.{Fairness, requestsFrom}
+use Rattle.model.specs.Queue.{flag}
+use Rattle.model.specs.Requests.{Requests, noneYet, after, entries}
+use Rattle.model.specs.Fairness.{Fairness, Served, meanwhile, every, underRequestOrder, requestsFrom}
 use Rattle.model.specs.Reachable.{InRange, StepsRange}
 use Rattle.model.specs.History.{Tied}
 use Rattle.model.specs.Script.{replay, stepsOf}
 use Rattle.model.specs.Records.{Bytes, AllFit, opening}
 use Rattle.model.specs.Scripts.{answeredSteps}
+use Rattle.model.specs.declared.Mailbox.{Mailbox}
 use Rattle.model.specs.declared.Mailbox.the-variants.{M0, M1, M2}
 use Rattle.model.specs.declared.Controller.{Controller}
 use Rattle.model.specs.declared.Step as steps
@@ -51,11 +54,14 @@ requestsHeld z = record {
   txfp = txfp (z .core .control);
 }
 
--- from any state in range, as one that was kept and is taken up again: an observer who then has the requests that the state
+-- demand 3 from any state in range, as one that was saved and is loaded (02, Q-2): an observer who then has the requests that the state
 -- holds has them ever after, and demand 3 holds
 pub record FromState (z : Controller) (l : List steps.Step) : Type 0 where
   pub held : InRange z → requestsFrom z (requestsHeld z) l ≡ requestsHeld (after z l)
   pub fair : InRange z → Fairness z (requestsHeld z) l
+  -- each request that the state holds counts as accepted just then
+  pub served : InRange z → (m : Mailbox) → flag (requestsHeld z .outstanding) m ≡ true → every underRequestOrder (meanwhile m (requestsHeld z) (entries z l)) ≡ true
+      → Served m (requestsHeld z) (entries z l)
   pub reachable : InRange z → StepsRange l → InRange (after z l)
 
 -- a hardware reset is accepted in every state, and nothing of that state is left: no request either

@@ -1,0 +1,9 @@
+pub mod Stores
+pub mod Banks
+pub mod Lengths
+pub mod Pieces
+pub mod Small
+pub mod Round
+pub mod Formed
+pub mod Widths
+pub mod Exactly
