@@ -7,3 +7,4 @@ pub mod Round
 pub mod Formed
 pub mod Widths
 pub mod Exactly
+pub mod Sampled

@@ -1,5 +1,5 @@
 -- What was saved is read back: each part of the state stands at its place, and its bytes give it back.
-use mathlib.Core.Bool.{Bool, true, false}
+use mathlib.Core.Bool.{Bool, true, false, not}
 use mathlib.Core.List.{List, [], _∷_, _++_}
 use mathlib.Core.Path.{_≡_, refl, sym, ap, subst, _∙_}
 use Prim.Native.Nat.{ℕ, zero, suc, _+_, _*_, _/_, _%_, _^_, _<_, _≤_}
@@ -56,7 +56,7 @@ back32 n h = quarters n (n / 2 ^ 8) (n / 2 ^ 16) (n / 2 ^ 24) (omega arith) (ome
 
 -- ---- flags and enums
 
-flag-back : (b : Bool) → eqb (one b) 1 ≡ b
+flag-back : (b : Bool) → not (eqb (one b) 0) ≡ b
 flag-back true = refl
 flag-back false = refl
 
@@ -98,10 +98,10 @@ mailboxAgain x = record {
   tdt = again32 (x .tdt);
   tdl = again32 (x .tdl);
   tdh = again32 (x .tdh);
-  rqcp = eqb (one (x .rqcp)) 1;
-  txok = eqb (one (x .txok)) 1;
-  alst = eqb (one (x .alst)) 1;
-  terr = eqb (one (x .terr)) 1;
+  rqcp = not (eqb (one (x .rqcp)) 0);
+  txok = not (eqb (one (x .txok)) 0);
+  alst = not (eqb (one (x .alst)) 0);
+  terr = not (eqb (one (x .terr)) 0);
 }
 
 mailbox-back : (x : MailboxState) → MailboxRange x → mailboxAgain x ≡ x
@@ -128,8 +128,8 @@ fifoAgain x = record {
   second = frameAgain (x .second);
   third = frameAgain (x .third);
   count = again16 (x .count);
-  full = eqb (one (x .full)) 1;
-  fovr = eqb (one (x .fovr)) 1;
+  full = not (eqb (one (x .full)) 0);
+  fovr = not (eqb (one (x .fovr)) 0);
 }
 
 fifo-back : (x : FifoState) → FifoRange x → fifoAgain x ≡ x

@@ -1,5 +1,5 @@
 -- Tests of small numbers, each by one computation over all of them.
-use mathlib.Core.Bool.{Bool, true, false, _&&_}
+use mathlib.Core.Bool.{Bool, true, false, not, _&&_}
 use mathlib.Core.Path.{_≡_, refl}
 use Prim.Native.Nat.{ℕ, zero, suc, _≤_}
 use native.Mathlib.Omega.{arith}
@@ -21,8 +21,8 @@ below-four p h (suc (suc zero)) l = and-l (p 2) _ (and-r (p 1) _ (and-r (p 0) _ 
 below-four p h (suc (suc (suc zero))) l = and-r (p 2) (p 3) (and-r (p 1) _ (and-r (p 0) _ h))
 below-four p h (suc (suc (suc (suc n)))) l = absurd (omega arith)
 
-pub flag-of : (n : ℕ) → n ≤ 1 → one (eqb n 1) ≡ n
-flag-of n h = eqb-true _ _ (imp-Is (below-four (λ n. imp (leb n 1) (eqb (one (eqb n 1)) n)) refl n (omega arith)) (le-leb n 1 h))
+pub flag-of : (n : ℕ) → n ≤ 1 → one (not (eqb n 0)) ≡ n
+flag-of n h = eqb-true _ _ (imp-Is (below-four (λ n. imp (leb n 1) (eqb (one (not (eqb n 0))) n)) refl n (omega arith)) (le-leb n 1 h))
 
 pub mode-of : (n : ℕ) → n ≤ 2 → modeBits (modeAt n) ≡ n
 unfolding modeAt

@@ -37,7 +37,7 @@ abbrev pub bytes32 : ℕ → List ℕ
 bytes32 n = n % 256 ∷ n / 2 ^ 8 % 256 ∷ n / 2 ^ 16 % 256 ∷ n / 2 ^ 24 % 256 ∷ []
 
 abbrev pub flagAt : List ℕ → ℕ → Bool
-flagAt b i = eqb (byteAt b i) 1
+flagAt b i = not (eqb (byteAt b i) 0)
 
 unfoldable pub modeAt : ℕ → Mode
 modeAt n = pick (eqb n 0) Normal (pick (eqb n 1) Initialization Sleep)

@@ -1,2 +1,1 @@
-pub mod Fails
 pub mod Loads

@@ -39,5 +39,5 @@ pub(crate) fn flag_at(b: &[u8], i: usize) -> bool
     requires { ⌜ i < length (now b) ⌝ }
     ensures { λ r. ⌜ r ≡ blocks.flagAt (now (b .entry)) i ⌝ }
 {
-    b[i] == 1
+    b[i] != 0
 }

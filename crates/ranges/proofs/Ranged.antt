@@ -148,8 +148,11 @@ frame-in x r =
     from-each (frameTests x) (
       not-in _ (r .ri .even),
       (
-        unless-in _ _ (λ e. eq-eqb _ _ (r .ri .standard e)),
-        (eq-eqb _ _ (r .reserved), (lt-ltb _ _ (r .fmi), (eq-eqb _ _ (none-in (x .rdl) (x .rdh) (r .rdl) (r .rdh) (dataBytes (frameOf x)) (data-bytes-le (frameOf x)) (r .low) (r .high)), tt))),
+        eq-eqb _ _ (r .reserved),
+        (
+          lt-ltb _ _ (r .fmi),
+          (eq-eqb _ _ (none-in (x .rdl) (x .rdh) (r .rdl) (r .rdh) (dataBytes (frameOf x)) (data-bytes-le (frameOf x)) (r .low) (r .high)), (unless-in _ _ (λ e. eq-eqb _ _ (r .ri .standard e)), tt)),
+        ),
       ),
     )
 
@@ -163,12 +166,12 @@ frame-out : (x : StoredFrame) → FrameFits x → Is (frameOk x) → FrameRange 
 unfolding frameOk noneBehind
 frame-out x w h =
     let t = to-each (frameTests x) h in
-    let k = none-out (x .rdl) (x .rdh) (w .rdl) (w .rdh) (dataBytes (frameOf x)) (data-bytes-le (frameOf x)) (eqb-true _ _ (t .1 .1 .1 .1 .0)) in
+    let k = none-out (x .rdl) (x .rdh) (w .rdl) (w .rdh) (dataBytes (frameOf x)) (data-bytes-le (frameOf x)) (eqb-true _ _ (t .1 .1 .1 .0)) in
     record {
-      ri = record { word = w .ri; even = not-out _ (t .0); standard = λ e. eqb-true _ _ (unless-out (bit 2 (x .ri)) (eqb (bits 3 18 (x .ri)) 0) (t .1 .0) e) };
+      ri = record { word = w .ri; even = not-out _ (t .0); standard = λ e. eqb-true _ _ (unless-out (bit 2 (x .ri)) (eqb (bits 3 18 (x .ri)) 0) (t .1 .1 .1 .1 .0) e) };
       rdt = w .rdt;
-      reserved = eqb-true _ _ (t .1 .1 .0);
-      fmi = ltb-true _ _ (t .1 .1 .1 .0);
+      reserved = eqb-true _ _ (t .1 .0);
+      fmi = ltb-true _ _ (t .1 .1 .0);
       rdl = w .rdl;
       rdh = w .rdh;
       low = k .0;

@@ -79,10 +79,10 @@ noneBehind w n = eqb (w / 2 ^ (8 * n)) 0
 abbrev pub frameTests : StoredFrame → List Bool
 frameTests x =
     not (bit 0 (x .ri))
-    ∷ (bit 2 (x .ri) || eqb (bits 3 18 (x .ri)) 0)
     ∷ eqb (bits 4 4 (x .rdt)) 0
     ∷ ltb (bits 8 8 (x .rdt)) (4 * bankCount)
     ∷ noneBehind (x .rdl + x .rdh * 2 ^ 32) (dataBytes (frameOf x))
+    ∷ (bit 2 (x .ri) || eqb (bits 3 18 (x .ri)) 0)
     ∷ []
 
 unfoldable pub frameOk : StoredFrame → Bool

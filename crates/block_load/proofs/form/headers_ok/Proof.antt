@@ -3,7 +3,7 @@ use mathlib.Core.Path.{sym, _∙_}
 use borrow.Author.Needs.{needs}
 use borrow.Author.Tests.{not-true, not-false}
 use Rattle.block.specs.Block.{headerTests, headersOk}
-use Rattle.block_load.proofs.Fails.{one-fails, last-one}
+use Rattle.ranges.proofs.Tests.{one-fails, last-one}
 use Rattle.block_load.proofs.form.headers_ok.Statement.{statement}
 use Rattle.block_load.proofs.form.headers_ok.Tie as tie
 
