@@ -1,12 +1,11 @@
 -- The words of the banks, written and read one after the other.
-use mathlib.Core.Path.{_≡_, refl, sym, ap, subst, _∙_}
+use mathlib.Core.Path.{_≡_, refl, sym, ap, _∙_}
 use mathlib.Core.List.{List, [], _∷_, _++_}
 use Prim.Native.Nat.{ℕ, zero, suc, _+_, _*_, _<_, _≤_}
 use native.Mathlib.Numerals.{add-one}
 use native.Mathlib.Omega.{arith}
 use lib.ListN.{length, getD, take, drop}
 use lib.Seq.{sets, take-suc, take-all, length-take-le, ext-getD, getD-drop}
-use borrow.Author.Count.{below-more}
 use Rattle.model.specs.Script.{number32}
 use Rattle.block.specs.Block.{bytes32, wordBytes, banksBytes, wordsOf}
 use Rattle.block.proofs.Stores.{sets-append}

@@ -1,8 +1,8 @@
 -- What was saved is read back: each part of the state stands at its place, and its bytes give it back.
 use mathlib.Core.Bool.{Bool, true, false, not}
-use mathlib.Core.List.{List, [], _∷_, _++_}
-use mathlib.Core.Path.{_≡_, refl, sym, ap, subst, _∙_}
-use Prim.Native.Nat.{ℕ, zero, suc, _+_, _*_, _/_, _%_, _^_, _<_, _≤_}
+use mathlib.Core.List.{List, [], _∷_}
+use mathlib.Core.Path.{_≡_, refl, sym, ap, _∙_}
+use Prim.Native.Nat.{ℕ, _+_, _*_, _/_, _%_, _^_, _<_}
 use native.Mathlib.Omega.{arith}
 use lib.Dec.{eqb}
 use lib.ListN.{length, drop}
@@ -10,7 +10,7 @@ use Rattle.base.specs.Base.{one}
 use Rattle.model.specs.Queue.{number, numbered}
 use Rattle.model.specs.Control.{modeBits}
 use Rattle.model.specs.Mailboxes.{at}
-use Rattle.model.specs.Reachable.{MailboxRange, TransmitRange, FrameRange, FifoRange, FilterRange, Words, ControlRange, ErrorRange, CoreRange, InRange}
+use Rattle.model.specs.Reachable.{MailboxRange, FrameRange, FifoRange, FilterRange, Words, ControlRange, InRange}
 use Rattle.model.specs.declared.Mailbox.{Mailbox}
 use Rattle.model.specs.declared.Mailbox.the-variants.{M0, M1, M2}
 use Rattle.model.specs.declared.Sender.{Sender}
@@ -26,8 +26,6 @@ use Rattle.model.specs.declared.Filters.{Filters}
 use Rattle.model.specs.declared.Mode.{Mode}
 use Rattle.model.specs.declared.Mode.the-variants.{Sleep, Initialization, Normal}
 use Rattle.model.specs.declared.Control.{Control}
-use Rattle.model.specs.declared.Errors.{Errors}
-use Rattle.model.specs.declared.Core.{Core}
 use Rattle.model.specs.declared.Controller.{Controller}
 use Rattle.block.specs.Block.{controlBytes, errorsBytes, mailboxBytes, queueBytes, fifoBytes, filtersBytes, wordBytes, banksBytes, transmitBytes, coreBytes, saved, controlAt, errorsAt, mailboxAt, queueAt, frameAt, fifoAt, filtersAt, wordsOf, transmitAt, coreAt, decoded, modeAt, senderByte, senderAt, orderByte0, orderByte1, orderByte2, orderAt}
 

@@ -1,7 +1,7 @@
 -- The state block: a controller as tagged fields, one for each part of the state, and a controller read from such bytes.
 -- Document 02: Q-2. docs/BLOCK.md has the same as tables. A field is a tag byte, two length bytes low first, and a body; numbers stand
 -- low byte first, a flag is a byte 0 or 1.
-use mathlib.Core.Bool.{Bool, true, false, not, _&&_, _||_}
+use mathlib.Core.Bool.{Bool, not, _&&_, _||_}
 use mathlib.Core.List.{List, [], _∷_, _++_}
 use Prim.Native.Nat.{ℕ, zero, suc, _+_, _/_, _%_, _^_}
 use lib.Dec.{eqb, leb}

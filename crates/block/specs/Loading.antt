@@ -1,5 +1,5 @@
 -- Which blocks are accepted, what loading and saving give, and the promises about them. Document 02: Q-2.
-use mathlib.Core.Bool.{Bool, true, false, _&&_}
+use mathlib.Core.Bool.{Bool, _&&_}
 use mathlib.Core.List.{List}
 use mathlib.Core.Path.{_≡_}
 use Prim.Native.Nat.{ℕ}

@@ -1,4 +1,4 @@
-// The block of the reset state, byte by byte: `put_core` at a second place would cost every call at the first 100 instructions.
+// The block of the reset state, byte by byte: `put_core` at a second place of the archive would cost every call 88 instructions.
 ghost use mathlib.Core.Path.{_≡_};
 ghost use lib.ListN.{length, replicate};
 ghost use Rattle.model.specs.Registers as map;

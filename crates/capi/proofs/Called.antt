@@ -1,25 +1,22 @@
 -- A call's answer and its block, by the way that it went.
 use mathlib.Core.Bool.{Bool, true, false, not, _&&_}
 use mathlib.Core.List.{List}
-use mathlib.Core.Path.{_≡_, refl, sym, subst, ap, _∙_}
+use mathlib.Core.Path.{_≡_, refl, sym, ap, _∙_}
 use Prim.Native.Nat.{ℕ}
 use lib.Dec.{eqb}
 use lib.ListN.{length}
 use borrow.Author.Tests.{eq-eqb, ne-eqb}
-use Rattle.base.specs.Base.{pick}
 use Rattle.base.proofs.Choices.{Is, Not}
-use Rattle.model.specs.Registers.{reset}
 use Rattle.model.specs.Step.{refusal, step}
 use Rattle.model.specs.Shown.{isRead}
-use Rattle.model.specs.declared.Core.{Core}
 use Rattle.model.specs.declared.Controller.{Controller}
 use Rattle.model.specs.declared.Stepped.{Stepped}
 use Rattle.model.specs.declared.Step as steps
 use Rattle.writes.specs.Places.{changed}
 use Rattle.controller.specs.After.{placeAfter, coreStep, coreStepAt, whole, whole-step}
 use Rattle.controller.specs.declared.CoreStepped.{CoreStepped}
-use Rattle.block.specs.Block.{blockLength, coreBytes, saved, coreAt, decoded}
-use Rattle.block.specs.Loading.{rightLength, accepts, loadCode, coreLoaded, banksLoaded, loaded, savedOver, coreSavedOver, banksSavedOver}
+use Rattle.block.specs.Block.{blockLength}
+use Rattle.block.specs.Loading.{rightLength, accepts, loadCode, banksLoaded, loaded, savedOver, coreSavedOver, banksSavedOver}
 use Rattle.block.proofs.Exactly.{code-zero, accepted-length}
 use Rattle.block_load.specs.Loaded.{loadedCore, loadedWhole}
 use Rattle.block_load.specs.declared.LoadedCore.{LoadedCore}

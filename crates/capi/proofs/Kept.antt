@@ -1,22 +1,22 @@
 -- What the calls promise, from states within the ranges.
-use mathlib.Core.Bool.{Bool, true, false, not, _&&_, _||_, true≢false, false≢true}
+use mathlib.Core.Bool.{Bool, true, false, not, _&&_, _||_, true≢false}
 use mathlib.Core.List.{List, [], _∷_, _++_}
 use mathlib.Core.Path.{_≡_, refl, sym, subst, ap, _∙_}
-use Prim.Native.Nat.{ℕ, suc, _+_, _*_, _/_, _%_, _^_, _<_, _≤_}
+use Prim.Native.Nat.{ℕ, _+_, _*_, _<_}
 use native.Mathlib.Omega.{arith}
 use lib.Dec.{eqb}
-use lib.ListN.{length, set}
+use lib.ListN.{length}
 use lib.Seq.{sets}
-use borrow.Author.Tests.{eq-eqb, ne-eqb, eqb-true, eqb-false}
+use borrow.Author.Tests.{eq-eqb, ne-eqb, eqb-true}
 use Rattle.base.specs.Base.{pick, bit, one}
-use Rattle.base.proofs.Choices.{Is, Not, and-l, one-le, opposed}
+use Rattle.base.proofs.Choices.{Is, Not, and-l, one-le}
 use Rattle.model.specs.Control.{modeNext, isInitialization, isSleep, inrq, sleep, boff, entered, statusLine}
 use Rattle.model.specs.Control as control
 use Rattle.model.specs.Reception.{fifoLine}
 use Rattle.model.specs.Registers.{reset, isFree, withControl}
 use Rattle.model.specs.Step.{refusal, step, answered, coreAfter, banksAfter, applied, banksApplied, settled, anyRqcp, linesOf}
 use Rattle.model.specs.Shown.{isRead}
-use Rattle.model.specs.Reachable.{InRange, Followed, StepRange, StepsRange}
+use Rattle.model.specs.Reachable.{InRange, StepsRange}
 use Rattle.model.specs.Records.{Bytes}
 use Rattle.model.specs.Requests.{after}
 use Rattle.model.specs.declared.Mode.{Mode}
@@ -29,7 +29,6 @@ use Rattle.model.specs.declared.Step as steps
 use Rattle.model.specs.declared.Step.the-variants.{Reset, Read, Write, Idle, BitTimes, Activity, Start, Outcome, Receive, ReceiveError}
 use Rattle.model.proofs.Coded.{codes, refused}
 use Rattle.model.proofs.Reached.{step-in-range, after-in-range}
-use Rattle.model.proofs.WordRange.{word-small}
 use Rattle.model.proofs.FromAnywhere.{from-state, hardware-reset}
 use Rattle.writes.specs.Places.{changed, changed-none}
 use Rattle.controller.specs.After.{placeAfter, valueAfter, coreStep, coreStepAt, whole-step}

@@ -1,6 +1,6 @@
 -- The calls from C: a step on the state in a lent block. Document 02: Q-2. The numbers of a step are those that the caller gives, whatever
 -- their width; code, lines and word come back in one number.
-use mathlib.Core.Bool.{Bool, true, false, not, _&&_}
+use mathlib.Core.Bool.{Bool, not, _&&_}
 use mathlib.Core.List.{List}
 use Prim.Native.Nat.{ℕ, _+_, _*_, _^_}
 use lib.Dec.{eqb}

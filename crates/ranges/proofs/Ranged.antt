@@ -1,19 +1,18 @@
 -- The tests say what the ranges of the model say.
-use mathlib.Core.Bool.{Bool, true, false, not, _&&_, _||_, false≢true, true≢false}
-use mathlib.Core.List.{List, [], _∷_}
-use mathlib.Core.Path.{_≡_, refl, sym, subst, ap, _∙_}
-use Prim.Native.Nat.{ℕ, zero, suc, _+_, _*_, _-_, _/_, _%_, _^_, _<_, _≤_}
+use mathlib.Core.Bool.{Bool, true, false, not, _||_, false≢true, true≢false}
+use mathlib.Core.Path.{_≡_, refl, sym, subst, ap}
+use Prim.Native.Nat.{ℕ, zero, suc, _+_, _*_, _-_, _/_, _^_, _<_, _≤_}
 use native.Mathlib.Omega.{arith}
-use lib.Dec.{eqb, ltb, leb}
+use lib.Dec.{eqb, ltb}
 use lib.ListN.{length}
 use borrow.Author.Tests.{eqb-true, ltb-true, leb-true, ltb-false, eq-eqb, lt-ltb, le-leb}
 use Rattle.base.specs.Base.{bit, bits, one}
 use Rattle.model.specs.Queue.{holds, flag, isFrom}
-use Rattle.model.specs.Mailboxes.{at, tdtMasked}
+use Rattle.model.specs.Mailboxes.{at}
 use Rattle.model.specs.Reception.{dataBytes, bytesKept, noFrame}
-use Rattle.model.specs.Control.{inrq, sleep, ttcm, modeNext, modeBits, isSleep, isInitialization, isNormal, boff, mcrMasked, ierMasked, btrMasked}
-use Rattle.model.specs.Registers.{bankCount, filterMasked, isFree}
-use Rattle.model.specs.Reachable.{distinct, carried, frameOf, silent, QueueRange, MailboxRange, TransmitRange, IdentifierRange, FrameRange, FifoRange, FilterRange, Words, ControlRange, ErrorRange, RecoveryRange, WireRange, CoreRange, Followed, InRange}
+use Rattle.model.specs.Control.{inrq, sleep, ttcm, modeNext, modeBits, isInitialization, isNormal, boff}
+use Rattle.model.specs.Registers.{bankCount, isFree}
+use Rattle.model.specs.Reachable.{frameOf, silent, QueueRange, MailboxRange, TransmitRange, FrameRange, FifoRange, FilterRange, Words, ControlRange, ErrorRange, RecoveryRange, WireRange, CoreRange, Followed, InRange}
 use Rattle.model.specs.declared.Mailbox.{Mailbox}
 use Rattle.model.specs.declared.Mailbox.the-variants.{M0, M1, M2}
 use Rattle.model.specs.declared.Queue.{Queue}
@@ -31,7 +30,7 @@ use Rattle.model.specs.declared.Controller.{Controller}
 use Rattle.ranges.specs.Ranges.{queueTests, mailboxTests, transmitTests, frameTests, noFrameTests, fifoTests, placeOk, filtersTests, controlTests, errorsTests, recoveryTests, wireTests, coreTests, atMostOne, noneBehind, queueOk, mailboxOk, transmitOk, frameOk, isNoFrame, fifoOk, filtersOk, controlOk, errorsOk, recoveryOk, wireOk, followedOk, inRange}
 use Rattle.model.proofs.FifoRanges.{no-frame-range}
 use Rattle.receive.proofs.Masks.{data-bytes-le}
-use Rattle.ranges.proofs.Tests.{Is, Each, to-each, from-each, if-in, if-out, unless-in, unless-out, not-in, not-out}
+use Rattle.ranges.proofs.Tests.{Is, to-each, from-each, if-in, if-out, unless-in, unless-out, not-in, not-out}
 
 -- ---- requests
 

@@ -1,6 +1,6 @@
 -- The ranges of a controller's fields as tests: those of the model's `InRange` (specs/Reachable.antt) that the widths of the fields
 -- do not give. They are proved equivalent to it: proofs/Ranged.antt, `range-in` and `range-out`. Document 02: Q-2.
-use mathlib.Core.Bool.{Bool, true, false, not, _&&_, _||_}
+use mathlib.Core.Bool.{Bool, true, not, _&&_, _||_}
 use mathlib.Core.List.{List, [], _∷_}
 use Prim.Native.Nat.{ℕ, _+_, _*_, _/_, _^_}
 use lib.Dec.{eqb, ltb, leb}
@@ -21,7 +21,6 @@ use Rattle.model.specs.declared.Filters.{Filters}
 use Rattle.model.specs.declared.Control.{Control}
 use Rattle.model.specs.declared.Errors.{Errors}
 use Rattle.model.specs.declared.Core.{Core}
-use Rattle.model.specs.declared.Controller.{Controller}
 
 -- every test of a list holds
 abbrev pub all : List Bool → Bool

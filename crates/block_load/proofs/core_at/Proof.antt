@@ -2,39 +2,25 @@ use Rattle.block.specs.Block.{coreAt}
 use borrow.Author.Needs.{needs}
 use Rattle.block_load.proofs.core_at.Statement.{statement}
 use Rattle.block_load.proofs.core_at.Tie as tie
-use Rattle.block_load.proofs.core_at.Reads as reads
-use Rattle.block_load.proofs.core_at.Lts as lts
-use Rattle.block_load.proofs.take.control_at.Reads as control-at-reads
-use Rattle.block_load.proofs.take.errors_at.Reads as errors-at-reads
-use Rattle.block_load.proofs.take.fifo_at.Reads as fifo-at-reads
-use Rattle.block_load.proofs.take.filters_at.Reads as filters-at-reads
-use Rattle.block_load.proofs.transmit_at.Reads as transmit-at-reads
 
--- src/lib.rt:82:9
 control-at-requires : tie.Need-control-at-requires
 control-at-requires c κs = search needs
 
--- src/lib.rt:83:9
 errors-at-requires : tie.Need-errors-at-requires
 errors-at-requires c κs = search needs
 
--- src/lib.rt:84:9
 transmit-at-requires : tie.Need-transmit-at-requires
 transmit-at-requires c κs = search needs
 
--- src/lib.rt:85:9
 fifo-at-requires : tie.Need-fifo-at-requires
 fifo-at-requires c κs = search needs
 
--- src/lib.rt:86:9
 fifo-at-requires-2 : tie.Need-fifo-at-requires-2
 fifo-at-requires-2 c κs = search needs
 
--- src/lib.rt:87:9
 filters-at-requires : tie.Need-filters-at-requires
 filters-at-requires c κs = search needs
 
--- src/lib.rt:78:1
 returns : tie.Need-returns
 unfolding coreAt
 returns c = simp (c .filters-at .ensures, c .before .fifo-at2 .ensures, c .before .before .fifo-at .ensures, c .before .before .before .transmit-at .ensures, c .before .before .before .before .errors-at .ensures, c .before .before .before .before .before .control-at .ensures)

@@ -2,28 +2,19 @@ use Rattle.block.specs.Block.{transmitAt}
 use borrow.Author.Needs.{needs}
 use Rattle.block_load.proofs.transmit_at.Statement.{statement}
 use Rattle.block_load.proofs.transmit_at.Tie as tie
-use Rattle.block_load.proofs.transmit_at.Reads as reads
-use Rattle.block_load.proofs.transmit_at.Lts as lts
-use Rattle.block_load.proofs.take.mailbox_at.Reads as mailbox-at-reads
-use Rattle.block_load.proofs.take.queue_at.Reads as queue-at-reads
 
--- src/lib.rt:64:9
 mailbox-at-requires : tie.Need-mailbox-at-requires
 mailbox-at-requires c κs = search needs
 
--- src/lib.rt:65:9
 mailbox-at-requires-2 : tie.Need-mailbox-at-requires-2
 mailbox-at-requires-2 c κs = search needs
 
--- src/lib.rt:66:9
 mailbox-at-requires-3 : tie.Need-mailbox-at-requires-3
 mailbox-at-requires-3 c κs = search needs
 
--- src/lib.rt:67:9
 queue-at-requires : tie.Need-queue-at-requires
 queue-at-requires c κs = search needs
 
--- src/lib.rt:60:1
 returns : tie.Need-returns
 unfolding transmitAt
 returns c = simp (c .queue-at .ensures, c .before .mailbox-at3 .ensures, c .before .before .mailbox-at2 .ensures, c .before .before .before .mailbox-at .ensures)

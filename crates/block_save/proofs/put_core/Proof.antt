@@ -1,49 +1,33 @@
 use Rattle.block.proofs.Lengths.{control-length, errors-length, transmit-length, fifo-length}
-use Rattle.block.specs.Block.{controlBytes, errorsBytes, transmitBytes, mailboxBytes, queueBytes, fifoBytes, filtersBytes, coreBytes}
-use Prim.Native.Nat.{_+_}
+use Rattle.block.specs.Block.{controlBytes, errorsBytes, transmitBytes, fifoBytes, filtersBytes, coreBytes}
 use mathlib.Core.List.{[], _∷_}
 use native.Mathlib.Omega.{arith}
 use Rattle.block.proofs.Stores.{run, runs}
 use borrow.Author.Needs.{needs}
 use Rattle.block_save.proofs.put_core.Statement.{statement}
 use Rattle.block_save.proofs.put_core.Tie as tie
-use Rattle.block_save.proofs.put_core.Reads as reads
-use Rattle.block_save.proofs.put_core.Lts as lts
-use Rattle.block_save.proofs.put.put_control.Reads as put-control-reads
-use Rattle.block_save.proofs.put.put_errors.Reads as put-errors-reads
-use Rattle.block_save.proofs.put.put_fifo.Reads as put-fifo-reads
-use Rattle.block_save.proofs.put.put_filters.Reads as put-filters-reads
-use Rattle.block_save.proofs.put_transmit.Reads as put-transmit-reads
 
--- src/lib.rt:41:5
 put-control-requires : tie.Need-put-control-requires
 put-control-requires c κs = search needs
 
--- src/lib.rt:42:5
 put-errors-requires : tie.Need-put-errors-requires
 put-errors-requires c κs = search needs
 
--- src/lib.rt:43:5
 put-transmit-requires : tie.Need-put-transmit-requires
 put-transmit-requires c κs = search needs
 
--- src/lib.rt:44:5
 put-fifo-requires : tie.Need-put-fifo-requires
 put-fifo-requires c κs = search needs
 
--- src/lib.rt:45:5
 put-fifo-requires-2 : tie.Need-put-fifo-requires-2
 put-fifo-requires-2 c κs = search needs
 
--- src/lib.rt:46:5
 put-filters-requires : tie.Need-put-filters-requires
 put-filters-requires c κs = search needs
 
--- src/lib.rt:31:1
 same-length : tie.Need-same-length
 same-length c = search needs
 
--- src/lib.rt:31:1
 returns : tie.Need-returns
 unfolding coreBytes
 returns c =

@@ -1,38 +1,27 @@
 use Rattle.block.proofs.Lengths.{mailbox-length}
 use Rattle.block.specs.Block.{mailboxBytes, queueBytes, transmitBytes}
-use Prim.Native.Nat.{_+_}
 use mathlib.Core.List.{[], _∷_}
 use native.Mathlib.Omega.{arith}
 use Rattle.block.proofs.Stores.{run, runs}
 use borrow.Author.Needs.{needs}
 use Rattle.block_save.proofs.put_transmit.Statement.{statement}
 use Rattle.block_save.proofs.put_transmit.Tie as tie
-use Rattle.block_save.proofs.put_transmit.Reads as reads
-use Rattle.block_save.proofs.put_transmit.Lts as lts
-use Rattle.block_save.proofs.put.put_mailbox.Reads as put-mailbox-reads
-use Rattle.block_save.proofs.put.put_queue.Reads as put-queue-reads
 
--- src/lib.rt:25:5
 put-mailbox-requires : tie.Need-put-mailbox-requires
 put-mailbox-requires c κs = search needs
 
--- src/lib.rt:26:5
 put-mailbox-requires-2 : tie.Need-put-mailbox-requires-2
 put-mailbox-requires-2 c κs = search needs
 
--- src/lib.rt:27:5
 put-mailbox-requires-3 : tie.Need-put-mailbox-requires-3
 put-mailbox-requires-3 c κs = search needs
 
--- src/lib.rt:28:5
 put-queue-requires : tie.Need-put-queue-requires
 put-queue-requires c κs = search needs
 
--- src/lib.rt:16:1
 same-length : tie.Need-same-length
 same-length c = search needs
 
--- src/lib.rt:16:1
 returns : tie.Need-returns
 unfolding transmitBytes
 returns c =

@@ -2,24 +2,16 @@ use Rattle.block_save.proofs.Over.{over, code-kept}
 use borrow.Author.Needs.{needs}
 use Rattle.block_save.proofs.save.Statement.{statement}
 use Rattle.block_save.proofs.save.Tie as tie
-use Rattle.block_save.proofs.save.Reads as reads
-use Rattle.block_save.proofs.save.Lts as lts
-use Rattle.block_save.proofs.save_banks.Reads as save-banks-reads
-use Rattle.block_save.proofs.save_core.Reads as save-core-reads
 
--- src/lib.rt:78:5
 save-core-requires : tie.Need-save-core-requires
 save-core-requires c κs = search needs
 
--- src/lib.rt:79:5
 save-banks-requires : tie.Need-save-banks-requires
 save-banks-requires c κs = search needs
 
--- src/lib.rt:73:1
 same-length : tie.Need-same-length
 same-length c = search needs
 
--- src/lib.rt:73:1
 returns : tie.Need-returns
 returns c =
     let k = c .before .before .save-banks .ensures in

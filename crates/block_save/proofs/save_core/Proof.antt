@@ -3,24 +3,17 @@ use Rattle.block.specs.Loading.{rightLength, saveCode, coreSavedOver}
 use borrow.Author.Needs.{needs}
 use Rattle.block_save.proofs.save_core.Statement.{statement}
 use Rattle.block_save.proofs.save_core.Tie as tie
-use Rattle.block_save.proofs.save_core.Reads as reads
-use Rattle.block_save.proofs.save_core.Lts as lts
-use Rattle.block_save.proofs.put_core.Reads as put-core-reads
 
--- src/lib.rt:56:9
 returns : tie.Need-returns
 unfolding rightLength saveCode coreSavedOver
 returns c = let e = ne-eqb _ _ (c .if1 .taken) in (rw e, rw e)
 
--- src/lib.rt:58:5
 put-core-requires : tie.Need-put-core-requires
 put-core-requires c κs = search needs
 
--- src/lib.rt:52:1
 same-length : tie.Need-same-length
 same-length c = search needs
 
--- src/lib.rt:52:1
 returns-2 : tie.Need-returns-2
 unfolding rightLength saveCode coreSavedOver
 returns-2 c = let e = eq-eqb _ _ (c .before .before .before .before .if1 .left) in (rw e, rw (e, c .before .before .put-core .ensures))

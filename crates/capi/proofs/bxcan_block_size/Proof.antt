@@ -2,15 +2,11 @@ use Rattle.capi.specs.Calls.{isBoard, blockSize}
 use borrow.Author.Tests.{eq-eqb, ne-eqb}
 use Rattle.capi.proofs.bxcan_block_size.Statement.{statement}
 use Rattle.capi.proofs.bxcan_block_size.Tie as tie
-use Rattle.capi.proofs.bxcan_block_size.Reads as reads
-use Rattle.capi.proofs.bxcan_block_size.Lts as lts
 
--- src/lib.rt:64:9
 returns : tie.Need-returns
 unfolding isBoard blockSize
 returns c = simp (eq-eqb _ _ (c .if1 .taken))
 
--- src/lib.rt:59:1
 returns-2 : tie.Need-returns-2
 unfolding isBoard blockSize
 returns-2 c = simp (ne-eqb _ _ (c .if1 .left))

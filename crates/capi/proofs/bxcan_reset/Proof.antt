@@ -4,28 +4,20 @@ use borrow.Author.Tests.{eq-eqb, ne-eqb}
 use borrow.Author.Needs.{needs}
 use Rattle.capi.proofs.bxcan_reset.Statement.{statement}
 use Rattle.capi.proofs.bxcan_reset.Tie as tie
-use Rattle.capi.proofs.bxcan_reset.Reads as reads
-use Rattle.capi.proofs.bxcan_reset.Lts as lts
-use Rattle.block_save.proofs.save_reset.Reads as save-reset-reads
 
--- src/lib.rt:74:9
 returns : tie.Need-returns
 unfolding isBoard fits resetAnswer blockReset
 returns c = let e = ne-eqb _ _ (c .if1 .taken) in (rw e, rw e)
 
--- src/lib.rt:76:5
 save-reset-requires : tie.Need-save-reset-requires
 save-reset-requires c κs = search needs
 
--- src/lib.rt:76:5
 cast-result : tie.Need-cast-result
 cast-result c = search needs
 
--- src/lib.rt:69:1
 same-length : tie.Need-same-length
 same-length c = search needs
 
--- src/lib.rt:69:1
 returns-2 : tie.Need-returns-2
 unfolding isBoard fits resetAnswer blockReset saveCode savedOver
 returns-2 c =

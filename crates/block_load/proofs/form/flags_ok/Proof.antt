@@ -2,39 +2,28 @@ use Rattle.block.specs.Block.{flagsOk}
 use borrow.Author.Needs.{needs}
 use Rattle.block_load.proofs.form.flags_ok.Statement.{statement}
 use Rattle.block_load.proofs.form.flags_ok.Tie as tie
-use Rattle.block_load.proofs.form.flags_ok.Reads as reads
-use Rattle.block_load.proofs.form.flags_ok.Lts as lts
-use Rattle.block_load.proofs.form.flag_ok.Reads as flag-ok-reads
 
--- src/form.rt:30:14
 add-i1 : tie.Need-add-i1
 add-i1 c = search needs
 
--- src/form.rt:31:14
 add-i2 : tie.Need-add-i2
 add-i2 c = search needs
 
--- src/form.rt:32:14
 add-i3 : tie.Need-add-i3
 add-i3 c = search needs
 
--- src/form.rt:33:5
 flag-ok-requires : tie.Need-flag-ok-requires
 flag-ok-requires c κs = search needs
 
--- src/form.rt:33:22
 flag-ok-requires-2 : tie.Need-flag-ok-requires-2
 flag-ok-requires-2 c κs = search needs
 
--- src/form.rt:33:40
 flag-ok-requires-3 : tie.Need-flag-ok-requires-3
 flag-ok-requires-3 c κs = search needs
 
--- src/form.rt:33:57
 flag-ok-requires-4 : tie.Need-flag-ok-requires-4
 flag-ok-requires-4 c κs = search needs
 
--- src/form.rt:26:1
 returns : tie.Need-returns
 unfolding flagsOk
 returns c = simp (c .flag-ok4 .ensures, c .before .flag-ok3 .ensures, c .before .before .flag-ok2 .ensures, c .before .before .before .flag-ok .ensures)

@@ -2,86 +2,61 @@ use Rattle.block.specs.Block.{formOk}
 use borrow.Author.Needs.{needs}
 use Rattle.block_load.proofs.form.form_ok.Statement.{statement}
 use Rattle.block_load.proofs.form.form_ok.Tie as tie
-use Rattle.block_load.proofs.form.form_ok.Reads as reads
-use Rattle.block_load.proofs.form.form_ok.Lts as lts
-use Rattle.block_load.proofs.form.flag_ok.Reads as flag-ok-reads
-use Rattle.block_load.proofs.form.flags_ok.Reads as flags-ok-reads
-use Rattle.block_load.proofs.form.order_ok.Reads as order-ok-reads
-use Rattle.block_load.proofs.numbers.byte_at.Reads as byte-at-reads
 
--- src/form.rt:79:9
 byte-at-requires : tie.Need-byte-at-requires
 byte-at-requires c κs = search needs
 
--- src/form.rt:80:9
 byte-at-requires-2 : tie.Need-byte-at-requires-2
 byte-at-requires-2 c κs = search needs
 
--- src/form.rt:81:9
 byte-at-requires-3 : tie.Need-byte-at-requires-3
 byte-at-requires-3 c κs = search needs
 
--- src/form.rt:82:6
 byte-at-requires-4 : tie.Need-byte-at-requires-4
 byte-at-requires-4 c κs = search needs
 
--- src/form.rt:83:12
 flags-ok-requires : tie.Need-flags-ok-requires
 flags-ok-requires c κs = search needs
 
--- src/form.rt:84:16
 flags-ok-requires-2 : tie.Need-flags-ok-requires-2
 flags-ok-requires-2 c κs = search needs
 
--- src/form.rt:85:20
 flags-ok-requires-3 : tie.Need-flags-ok-requires-3
 flags-ok-requires-3 c κs = search needs
 
--- src/form.rt:86:24
 flags-ok-requires-4 : tie.Need-flags-ok-requires-4
 flags-ok-requires-4 c κs = search needs
 
--- src/form.rt:87:28
 order-ok-requires : tie.Need-order-ok-requires
 order-ok-requires c κs = search needs
 
--- src/form.rt:88:33
 byte-at-requires-5 : tie.Need-byte-at-requires-5
 byte-at-requires-5 c κs = search needs
 
--- src/form.rt:89:36
 flag-ok-requires : tie.Need-flag-ok-requires
 flag-ok-requires c κs = search needs
 
--- src/form.rt:90:40
 flag-ok-requires-2 : tie.Need-flag-ok-requires-2
 flag-ok-requires-2 c κs = search needs
 
--- src/form.rt:91:44
 flag-ok-requires-3 : tie.Need-flag-ok-requires-3
 flag-ok-requires-3 c κs = search needs
 
--- src/form.rt:92:48
 flag-ok-requires-4 : tie.Need-flag-ok-requires-4
 flag-ok-requires-4 c κs = search needs
 
--- src/form.rt:93:52
 flag-ok-requires-5 : tie.Need-flag-ok-requires-5
 flag-ok-requires-5 c κs = search needs
 
--- src/form.rt:94:56
 flag-ok-requires-6 : tie.Need-flag-ok-requires-6
 flag-ok-requires-6 c κs = search needs
 
--- src/form.rt:95:60
 flag-ok-requires-7 : tie.Need-flag-ok-requires-7
 flag-ok-requires-7 c κs = search needs
 
--- src/form.rt:96:64
 flag-ok-requires-8 : tie.Need-flag-ok-requires-8
 flag-ok-requires-8 c κs = search needs
 
--- src/form.rt:75:1
 returns : tie.Need-returns
 unfolding formOk
 returns c = simp (c .flag-ok8 .ensures, c .before .flag-ok7 .ensures, c .before .before .flag-ok6 .ensures, c .before .before .before .flag-ok5 .ensures, c .before .before .before .before .flag-ok4 .ensures, c .before .before .before .before .before .flag-ok3 .ensures, c .before .before .before .before .before .before .flag-ok2 .ensures, c .before .before .before .before .before .before .before .flag-ok .ensures, c .before .before .before .before .before .before .before .before .byte-at5 .ensures, c .before .before .before .before .before .before .before .before .before .order-ok .ensures, c .before .before .before .before .before .before .before .before .before .before .flags-ok4 .ensures, c .before .before .before .before .before .before .before .before .before .before .before .flags-ok3 .ensures, c .before .before .before .before .before .before .before .before .before .before .before .before .flags-ok2 .ensures, c .before .before .before .before .before .before .before .before .before .before .before .before .before .flags-ok .ensures, c .before .before .before .before .before .before .before .before .before .before .before .before .before .before .byte-at4 .ensures, c .before .before .before .before .before .before .before .before .before .before .before .before .before .before .before .byte-at3 .ensures, c .before .before .before .before .before .before .before .before .before .before .before .before .before .before .before .before .byte-at2 .ensures, c .before .before .before .before .before .before .before .before .before .before .before .before .before .before .before .before .before .byte-at .ensures)

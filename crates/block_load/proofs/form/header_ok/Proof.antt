@@ -3,40 +3,30 @@ use borrow.Author.Tests.{eq-eqb, ne-eqb}
 use borrow.Author.Needs.{needs}
 use Rattle.block_load.proofs.form.header_ok.Statement.{statement}
 use Rattle.block_load.proofs.form.header_ok.Tie as tie
-use Rattle.block_load.proofs.form.header_ok.Reads as reads
-use Rattle.block_load.proofs.form.header_ok.Lts as lts
 
--- src/form.rt:13:13
 add-j : tie.Need-add-j
 add-j c = search needs
 
--- src/form.rt:14:13
 add-k : tie.Need-add-k
 add-k c = search needs
 
--- src/form.rt:15:8
 shared-slice-read-if1 : tie.Need-shared-slice-read-if1
 shared-slice-read-if1 c = search needs
 
--- src/form.rt:16:9
 returns : tie.Need-returns
 unfolding headerOk
 returns c = rw (ne-eqb _ _ (c .if1 .taken))
 
--- src/form.rt:18:8
 shared-slice-read-if2 : tie.Need-shared-slice-read-if2
 shared-slice-read-if2 c = search needs
 
--- src/form.rt:19:9
 returns-2 : tie.Need-returns-2
 unfolding headerOk
 returns-2 c = rw (ne-eqb _ _ (c .if2 .taken), eq-eqb _ _ (c .before .before .if1 .left))
 
--- src/form.rt:21:5
 shared-slice-read-result : tie.Need-shared-slice-read-result
 shared-slice-read-result c = search needs
 
--- src/form.rt:9:1
 returns-3 : tie.Need-returns-3
 unfolding headerOk
 returns-3 c = rw (eq-eqb _ _ (c .before .if2 .left), eq-eqb _ _ (c .before .before .before .if1 .left))

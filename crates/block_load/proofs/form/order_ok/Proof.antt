@@ -2,10 +2,7 @@ use mathlib.Core.Path.{refl}
 use Rattle.block.specs.Block.{orderOk}
 use Rattle.block_load.proofs.form.order_ok.Statement.{statement}
 use Rattle.block_load.proofs.form.order_ok.Tie as tie
-use Rattle.block_load.proofs.form.order_ok.Reads as reads
-use Rattle.block_load.proofs.form.order_ok.Lts as lts
 
--- src/form.rt:69:1
 returns : tie.Need-returns
 unfolding orderOk
 returns c = refl

@@ -2,23 +2,16 @@ use Rattle.block.specs.Block.{errorsAt}
 use borrow.Author.Needs.{needs}
 use Rattle.block_load.proofs.take.errors_at.Statement.{statement}
 use Rattle.block_load.proofs.take.errors_at.Tie as tie
-use Rattle.block_load.proofs.take.errors_at.Reads as reads
-use Rattle.block_load.proofs.take.errors_at.Lts as lts
-use Rattle.block_load.proofs.numbers.number16.Reads as number16-reads
 
--- src/take.rt:67:9
 number16-requires : tie.Need-number16-requires
 number16-requires c κs = search needs
 
--- src/take.rt:70:14
 shared-slice-read-t4 : tie.Need-shared-slice-read-t4
 shared-slice-read-t4 c = search needs
 
--- src/take.rt:71:14
 shared-slice-read-t6 : tie.Need-shared-slice-read-t6
 shared-slice-read-t6 c = search needs
 
--- src/take.rt:63:1
 returns : tie.Need-returns
 unfolding errorsAt
 returns c = simp (c .before .before .number16 .ensures)

@@ -1,22 +1,16 @@
 use Rattle.block.specs.Block.{modeAt}
 use borrow.Author.Tests.{eq-eqb, ne-eqb}
-use borrow.Author.Needs.{needs}
 use Rattle.block_load.proofs.take.mode_at.Statement.{statement}
 use Rattle.block_load.proofs.take.mode_at.Tie as tie
-use Rattle.block_load.proofs.take.mode_at.Reads as reads
-use Rattle.block_load.proofs.take.mode_at.Lts as lts
 
--- src/take.rt:27:9
 returns : tie.Need-returns
 unfolding modeAt
 returns c = simp (eq-eqb _ _ (c .if1 .taken))
 
--- src/take.rt:30:9
 returns-2 : tie.Need-returns-2
 unfolding modeAt
 returns-2 c = simp (ne-eqb _ _ (c .before .if1 .left), eq-eqb _ _ (c .if2 .taken))
 
--- src/take.rt:23:1
 returns-3 : tie.Need-returns-3
 unfolding modeAt
 returns-3 c = simp (ne-eqb _ _ (c .before .if1 .left), ne-eqb _ _ (c .if2 .left))

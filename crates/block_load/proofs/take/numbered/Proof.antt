@@ -1,19 +1,13 @@
 use borrow.Author.Tests.{eq-eqb, ne-eqb}
-use borrow.Author.Needs.{needs}
 use Rattle.block_load.proofs.take.numbered.Statement.{statement}
 use Rattle.block_load.proofs.take.numbered.Tie as tie
-use Rattle.block_load.proofs.take.numbered.Reads as reads
-use Rattle.block_load.proofs.take.numbered.Lts as lts
 
--- src/take.rt:105:9
 returns : tie.Need-returns
 returns c = simp (eq-eqb _ _ (c .if1 .taken))
 
--- src/take.rt:108:9
 returns-2 : tie.Need-returns-2
 returns-2 c = simp (ne-eqb _ _ (c .before .if1 .left), eq-eqb _ _ (c .if2 .taken))
 
--- src/take.rt:101:1
 returns-3 : tie.Need-returns-3
 returns-3 c = simp (ne-eqb _ _ (c .before .if1 .left), ne-eqb _ _ (c .if2 .left))
 

@@ -3,50 +3,37 @@ use borrow.Author.Tests.{eq-eqb, ne-eqb}
 use borrow.Author.Needs.{needs}
 use Rattle.block_load.proofs.take.order_at.Statement.{statement}
 use Rattle.block_load.proofs.take.order_at.Tie as tie
-use Rattle.block_load.proofs.take.order_at.Reads as reads
-use Rattle.block_load.proofs.take.order_at.Lts as lts
-use Rattle.block_load.proofs.take.numbered.Reads as numbered-reads
 
--- src/take.rt:126:9
 returns : tie.Need-returns
 unfolding orderAt
 returns c = simp (eq-eqb _ _ (c .if1 .taken))
 
--- src/take.rt:129:34
 numbered-requires : tie.Need-numbered-requires
 numbered-requires c κs = search needs
 
--- src/take.rt:129:9
 returns-2 : tie.Need-returns-2
 unfolding orderAt
 returns-2 c = simp (c .numbered .ensures, ne-eqb _ _ (c .before .before .if1 .left), eq-eqb _ _ (c .before .if2 .taken))
 
--- src/take.rt:132:34
 numbered-requires-2 : tie.Need-numbered-requires-2
 numbered-requires-2 c κs = search needs
 
--- src/take.rt:132:47
 numbered-requires-3 : tie.Need-numbered-requires-3
 numbered-requires-3 c κs = search needs
 
--- src/take.rt:132:9
 returns-3 : tie.Need-returns-3
 unfolding orderAt
 returns-3 c = simp (c .numbered3 .ensures, c .before .numbered2 .ensures, eq-eqb _ _ (c .before .before .if3 .taken), ne-eqb _ _ (c .before .before .before .if2 .left), ne-eqb _ _ (c .before .before .before .before .if1 .left))
 
--- src/take.rt:134:25
 numbered-requires-4 : tie.Need-numbered-requires-4
 numbered-requires-4 c κs = search needs
 
--- src/take.rt:134:38
 numbered-requires-5 : tie.Need-numbered-requires-5
 numbered-requires-5 c κs = search needs
 
--- src/take.rt:134:51
 numbered-requires-6 : tie.Need-numbered-requires-6
 numbered-requires-6 c κs = search needs
 
--- src/take.rt:122:1
 returns-4 : tie.Need-returns-4
 unfolding orderAt
 returns-4 c = simp (c .numbered6 .ensures, c .before .numbered5 .ensures, c .before .before .numbered4 .ensures, ne-eqb _ _ (c .before .before .before .if3 .left), ne-eqb _ _ (c .before .before .before .before .if2 .left), ne-eqb _ _ (c .before .before .before .before .before .if1 .left))

@@ -3,20 +3,14 @@ use borrow.Author.Tests.{eq-eqb, ne-eqb}
 use borrow.Author.Needs.{needs}
 use Rattle.block_load.proofs.take.sender_at.Statement.{statement}
 use Rattle.block_load.proofs.take.sender_at.Tie as tie
-use Rattle.block_load.proofs.take.sender_at.Reads as reads
-use Rattle.block_load.proofs.take.sender_at.Lts as lts
-use Rattle.block_load.proofs.take.numbered.Reads as numbered-reads
 
--- src/take.rt:117:9
 returns : tie.Need-returns
 unfolding senderAt
 returns c = simp (eq-eqb _ _ (c .if1 .taken))
 
--- src/take.rt:119:18
 numbered-requires : tie.Need-numbered-requires
 numbered-requires c κs = search needs
 
--- src/take.rt:113:1
 returns-2 : tie.Need-returns-2
 unfolding senderAt
 returns-2 c = simp (c .numbered .ensures, ne-eqb _ _ (c .before .if1 .left))

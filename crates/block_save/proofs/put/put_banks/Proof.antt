@@ -10,10 +10,6 @@ use Rattle.block.proofs.Stores.{kept}
 use borrow.Author.Needs.{needs}
 use Rattle.block_save.proofs.put.put_banks.Statement.{statement}
 use Rattle.block_save.proofs.put.put_banks.Tie as tie
-use Rattle.block_save.proofs.put.put_banks.Reads as reads
-use Rattle.block_save.proofs.put.put_banks.Lts as lts
-use Rattle.block_save.proofs.numbers.put3.Reads as put3-reads
-use Rattle.block_save.proofs.numbers.put32.Reads as put32-reads
 
 abbrev Inv-loop : tie.InvT-loop
 Inv-loop b₀ v j₀ b j = (j ≤ 28) × (354 ≤ length b) × (b ≡ sets b₀ 242 (wordBytes (take j v)))
@@ -21,44 +17,34 @@ Inv-loop b₀ v j₀ b j = (j ≤ 28) × (354 ≤ length b) × (b ≡ sets b₀ 
 abbrev μ-loop : tie.MeasureT-loop
 μ-loop b₀ v j₀ b j = 28 - j
 
--- src/put.rt:197:5
 put3-requires : tie.Need-put3-requires Inv-loop μ-loop
 put3-requires c κs = search needs
 
--- src/put.rt:199:5
 loop-holds : tie.Need-loop-holds Inv-loop μ-loop
 unfolding wordBytes
 loop-holds c = (omega arith, search needs, refl)
 
--- src/put.rt:200:23
 mul-i : tie.Need-mul-i Inv-loop μ-loop
 mul-i c = search needs
 
--- src/put.rt:200:17
 add-i : tie.Need-add-i Inv-loop μ-loop
 add-i c = search needs
 
--- src/put.rt:201:21
 mul-put32 : tie.Need-mul-put32 Inv-loop μ-loop
 mul-put32 c = search needs
 
--- src/put.rt:201:21
 array-read-put32 : tie.Need-array-read-put32 Inv-loop μ-loop
 array-read-put32 c = search needs
 
--- src/put.rt:201:9
 put32-requires : tie.Need-put32-requires Inv-loop μ-loop
 put32-requires c κs = search needs
 
--- src/put.rt:202:9
 add-j : tie.Need-add-j Inv-loop μ-loop
 add-j c = search needs
 
--- src/put.rt:199:5
 loop-less : tie.Need-loop-less Inv-loop μ-loop
 loop-less c = search needs
 
--- src/put.rt:199:5
 loop-again : tie.Need-loop-again Inv-loop μ-loop
 loop-again c =
     let l = c .before .before .before .before .before .loop in
@@ -70,14 +56,12 @@ loop-again c =
       e ∙ (ap (λ (x : List ℕ). sets x (242 + 4 * l .j) (bytes32 (getD v (l .j) 0))) (l .inv .2) ∙ word-more v _ (l .j) (omega arith)),
     )
 
--- src/put.rt:193:1
 same-length : tie.Need-same-length Inv-loop μ-loop
 same-length c =
     let l = c .before .loop in
     let a = c .before .before .before .before .before .before .before .args in
     kept _ _ 242 (wordBytes (take (l .j) (a .t2))) (l .inv .2) ∙ kept _ (a .b .now) 239 (0x49 ∷ 112 ∷ 0 ∷ []) (c .before .before .before .before .put3 .ensures)
 
--- src/put.rt:193:1
 returns : tie.Need-returns Inv-loop μ-loop
 returns c =
     let l = c .before .loop in

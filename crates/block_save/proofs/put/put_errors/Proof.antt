@@ -2,29 +2,19 @@ use Rattle.block.specs.Block.{errorsBytes}
 use borrow.Author.Needs.{needs}
 use Rattle.block_save.proofs.put.put_errors.Statement.{statement}
 use Rattle.block_save.proofs.put.put_errors.Tie as tie
-use Rattle.block_save.proofs.put.put_errors.Reads as reads
-use Rattle.block_save.proofs.put.put_errors.Lts as lts
-use Rattle.block_save.proofs.numbers.put16.Reads as put16-reads
-use Rattle.block_save.proofs.numbers.put2.Reads as put2-reads
-use Rattle.block_save.proofs.numbers.put3.Reads as put3-reads
 
--- src/put.rt:51:5
 put3-requires : tie.Need-put3-requires
 put3-requires c κs = search needs
 
--- src/put.rt:52:5
 put16-requires : tie.Need-put16-requires
 put16-requires c κs = search needs
 
--- src/put.rt:53:5
 put2-requires : tie.Need-put2-requires
 put2-requires c κs = search needs
 
--- src/put.rt:47:1
 same-length : tie.Need-same-length
 same-length c = search needs
 
--- src/put.rt:47:1
 returns : tie.Need-returns
 unfolding errorsBytes
 returns c = rw (c .before .before .put2 .ensures, c .before .before .before .before .before .before .put16 .ensures, c .before .before .before .before .before .before .before .before .before .before .put3 .ensures)

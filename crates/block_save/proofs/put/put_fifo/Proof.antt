@@ -7,71 +7,49 @@ use Rattle.block.proofs.Stores.{run, runs}
 use borrow.Author.Needs.{needs}
 use Rattle.block_save.proofs.put.put_fifo.Statement.{statement}
 use Rattle.block_save.proofs.put.put_fifo.Tie as tie
-use Rattle.block_save.proofs.put.put_fifo.Reads as reads
-use Rattle.block_save.proofs.put.put_fifo.Lts as lts
-use Rattle.block_save.proofs.numbers.flag_byte.Reads as flag-byte-reads
-use Rattle.block_save.proofs.numbers.put16.Reads as put16-reads
-use Rattle.block_save.proofs.numbers.put2.Reads as put2-reads
-use Rattle.block_save.proofs.numbers.put3.Reads as put3-reads
-use Rattle.block_save.proofs.put.put_frame.Reads as put-frame-reads
 
--- src/put.rt:169:14
 add-i1 : tie.Need-add-i1
 add-i1 c = search needs
 
--- src/put.rt:170:14
 add-i2 : tie.Need-add-i2
 add-i2 c = search needs
 
--- src/put.rt:171:14
 add-i3 : tie.Need-add-i3
 add-i3 c = search needs
 
--- src/put.rt:172:14
 add-i4 : tie.Need-add-i4
 add-i4 c = search needs
 
--- src/put.rt:173:14
 add-i5 : tie.Need-add-i5
 add-i5 c = search needs
 
--- src/put.rt:174:5
 put3-requires : tie.Need-put3-requires
 put3-requires c κs = search needs
 
--- src/put.rt:175:5
 put-frame-requires : tie.Need-put-frame-requires
 put-frame-requires c κs = search needs
 
--- src/put.rt:176:5
 put-frame-requires-2 : tie.Need-put-frame-requires-2
 put-frame-requires-2 c κs = search needs
 
--- src/put.rt:177:5
 put-frame-requires-3 : tie.Need-put-frame-requires-3
 put-frame-requires-3 c κs = search needs
 
--- src/put.rt:178:5
 put16-requires : tie.Need-put16-requires
 put16-requires c κs = search needs
 
--- src/put.rt:179:17
 flag-byte-requires : tie.Need-flag-byte-requires
 flag-byte-requires c κs = search needs
 
--- src/put.rt:179:36
 flag-byte-requires-2 : tie.Need-flag-byte-requires-2
 flag-byte-requires-2 c κs = search needs
 
--- src/put.rt:179:5
 put2-requires : tie.Need-put2-requires
 put2-requires c κs = search needs
 
--- src/put.rt:162:1
 same-length : tie.Need-same-length
 same-length c = search needs
 
--- src/put.rt:162:1
 returns : tie.Need-returns
 unfolding fifoBytes
 returns c =

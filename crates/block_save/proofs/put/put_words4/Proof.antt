@@ -6,43 +6,31 @@ use Rattle.block.proofs.Stores.{run, runs}
 use borrow.Author.Needs.{needs}
 use Rattle.block_save.proofs.put.put_words4.Statement.{statement}
 use Rattle.block_save.proofs.put.put_words4.Tie as tie
-use Rattle.block_save.proofs.put.put_words4.Reads as reads
-use Rattle.block_save.proofs.put.put_words4.Lts as lts
-use Rattle.block_save.proofs.numbers.put32.Reads as put32-reads
 
--- src/put.rt:67:14
 add-i1 : tie.Need-add-i1
 add-i1 c = search needs
 
--- src/put.rt:68:14
 add-i2 : tie.Need-add-i2
 add-i2 c = search needs
 
--- src/put.rt:69:14
 add-i3 : tie.Need-add-i3
 add-i3 c = search needs
 
--- src/put.rt:70:5
 put32-requires : tie.Need-put32-requires
 put32-requires c κs = search needs
 
--- src/put.rt:71:5
 put32-requires-2 : tie.Need-put32-requires-2
 put32-requires-2 c κs = search needs
 
--- src/put.rt:72:5
 put32-requires-3 : tie.Need-put32-requires-3
 put32-requires-3 c κs = search needs
 
--- src/put.rt:73:5
 put32-requires-4 : tie.Need-put32-requires-4
 put32-requires-4 c κs = search needs
 
--- src/put.rt:63:1
 same-length : tie.Need-same-length
 same-length c = search needs
 
--- src/put.rt:63:1
 returns : tie.Need-returns
 returns c =
     let a = c .before .before .before .before .before .before .before .before .before .before .before .before .before .before .before .before .before .args in

@@ -5,34 +5,22 @@ use Rattle.block_save.specs.Reset.{firstHeaders, lastHeaders, resetNumbe
 use borrow.Author.Needs.{needs}
 use Rattle.block_save.proofs.reset.put_reset.Statement.{statement}
 use Rattle.block_save.proofs.reset.put_reset.Tie as tie
-use Rattle.block_save.proofs.reset.put_reset.Reads as reads
-use Rattle.block_save.proofs.reset.put_reset.Lts as lts
-use Rattle.block_save.proofs.reset.clear.Reads as clear-reads
-use Rattle.block_save.proofs.reset.put_first_headers.Reads as put-first-headers-reads
-use Rattle.block_save.proofs.reset.put_last_headers.Reads as put-last-headers-reads
-use Rattle.block_save.proofs.reset.put_numbers.Reads as put-numbers-reads
 
--- src/reset.rt:61:5
 clear-requires : tie.Need-clear-requires
 clear-requires c κs = search needs
 
--- src/reset.rt:62:5
 put-first-headers-requires : tie.Need-put-first-headers-requires
 put-first-headers-requires c κs = search needs
 
--- src/reset.rt:63:5
 put-last-headers-requires : tie.Need-put-last-headers-requires
 put-last-headers-requires c κs = search needs
 
--- src/reset.rt:64:5
 put-numbers-requires : tie.Need-put-numbers-requires
 put-numbers-requires c κs = search needs
 
--- src/reset.rt:57:1
 same-length : tie.Need-same-length
 same-length c = search needs
 
--- src/reset.rt:57:1
 returns : tie.Need-returns
 unfolding firstHeaders lastHeaders resetNumbers saved coreBytes controlBytes errorsBytes transmitBytes mailboxBytes queueBytes fifoBytes filtersBytes banksBytes wordBytes reset controlReset
 returns c = rw (c .before .before .put-numbers .ensures, c .before .before .before .before .before .before .put-last-headers .ensures, c .before .before .before .before .before .before .before .before .before .before .put-first-headers .ensures, c .before .before .before .before .before .before .before .before .before .before .before .before .before .before .clear .ensures)

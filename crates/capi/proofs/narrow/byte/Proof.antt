@@ -3,19 +3,14 @@ use borrow.Author.Tests.{lt-ltb, le-ltb}
 use borrow.Author.Needs.{needs}
 use Rattle.capi.proofs.narrow.byte.Statement.{statement}
 use Rattle.capi.proofs.narrow.byte.Tie as tie
-use Rattle.capi.proofs.narrow.byte.Reads as reads
-use Rattle.capi.proofs.narrow.byte.Lts as lts
 
--- src/narrow.rt:28:9
 returns : tie.Need-returns
 unfolding byte
 returns c = simp (lt-ltb _ _ (c .if1 .taken))
 
--- src/narrow.rt:30:5
 cast-result : tie.Need-cast-result
 cast-result c = search needs
 
--- src/narrow.rt:24:1
 returns-2 : tie.Need-returns-2
 unfolding byte
 returns-2 c = simp (le-ltb _ _ (c .if1 .left))

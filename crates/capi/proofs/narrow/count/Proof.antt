@@ -3,19 +3,14 @@ use borrow.Author.Tests.{lt-ltb, le-ltb}
 use borrow.Author.Needs.{needs}
 use Rattle.capi.proofs.narrow.count.Statement.{statement}
 use Rattle.capi.proofs.narrow.count.Tie as tie
-use Rattle.capi.proofs.narrow.count.Reads as reads
-use Rattle.capi.proofs.narrow.count.Lts as lts
 
--- src/narrow.rt:19:9
 returns : tie.Need-returns
 unfolding count
 returns c = simp (lt-ltb _ _ (c .if1 .taken))
 
--- src/narrow.rt:21:5
 cast-result : tie.Need-cast-result
 cast-result c = search needs
 
--- src/narrow.rt:15:1
 returns-2 : tie.Need-returns-2
 unfolding count
 returns-2 c = simp (le-ltb _ _ (c .if1 .left))

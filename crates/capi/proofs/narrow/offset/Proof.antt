@@ -3,19 +3,14 @@ use borrow.Author.Tests.{lt-ltb, le-ltb}
 use borrow.Author.Needs.{needs}
 use Rattle.capi.proofs.narrow.offset.Statement.{statement}
 use Rattle.capi.proofs.narrow.offset.Tie as tie
-use Rattle.capi.proofs.narrow.offset.Reads as reads
-use Rattle.capi.proofs.narrow.offset.Lts as lts
 
--- src/narrow.rt:10:9
 returns : tie.Need-returns
 unfolding offset
 returns c = simp (lt-ltb _ _ (c .if1 .taken))
 
--- src/narrow.rt:12:5
 cast-result : tie.Need-cast-result
 cast-result c = search needs
 
--- src/narrow.rt:6:1
 returns-2 : tie.Need-returns-2
 unfolding offset
 returns-2 c = simp (le-ltb _ _ (c .if1 .left))
