@@ -36,6 +36,14 @@ pub and-r : (a b : Bool) → Is (a && b) → Is b
 and-r true b h = h
 and-r false b h = absurd (false≢true h)
 
+pub and-both : (a b : Bool) → Is a → Is b → Is (a && b)
+and-both true b h k = k
+and-both false b h k = absurd (false≢true h)
+
+pub and-not : (a b : Bool) → Not b → Not (a && b)
+and-not true b h = h
+and-not false b h = refl
+
 -- a choice has what both its values have
 pub pick-cases : {A : Type 0} (P : A → Type 0) (b : Bool) (x y : A) → (b ≡ true → P x) → (b ≡ false → P y) → P (pick b x y)
 pick-cases P true x y f g = f refl

@@ -8,31 +8,29 @@ use lib.Dec.{eqb}
 use lib.ListN.{length}
 use borrow.Author.Tests.{eq-eqb, eqb-true}
 use Rattle.base.specs.Base.{pick}
-use Rattle.base.proofs.Choices.{Is, and-l, and-r}
-use Rattle.model.specs.Reachable.{InRange}
+use Rattle.base.proofs.Choices.{Is, and-l, and-r, and-both}
+use Rattle.model.specs.Reachable.{InRange, carried}
 use Rattle.model.specs.Records.{Bytes}
+use Rattle.model.specs.declared.Sender.{Sender}
 use Rattle.model.specs.declared.Core.{Core}
 use Rattle.model.specs.declared.Controller.{Controller}
 use Rattle.model.proofs.FromAnywhere.{from-state}
+use Rattle.model.proofs.StatusWord.{flags-shown}
 use Rattle.ranges.specs.Ranges.{inRange}
 use Rattle.ranges.proofs.Ranged.{range-in, range-out}
 use Rattle.block.specs.Block.{blockLength, saved, coreAt, decoded, canonical}
-use Rattle.block.specs.Loading.{rightLength, accepts, loadCode, loaded, Saves, Exact, SavedLoads, FromBlock, Blocks}
+use Rattle.block.specs.Loading.{rightLength, accepts, loadCode, loaded, Saves, Exact, SavedLoads, WaitingOrder, FromBlock, Blocks}
 use Rattle.block.proofs.Lengths.{saved-length}
 use Rattle.block.proofs.Round.{core-saved, decoded-saved}
 use Rattle.block.proofs.Formed.{saved-decoded, canonical-saved}
 use Rattle.block.proofs.Widths.{widths}
 
-both : (a b : Bool) → Is a → Is b → Is (a && b)
-both true b h k = k
-both false b h k = absurd (false≢true h)
-
 -- the bytes of a state in range are accepted
 saved-accepted : (z : Controller) → InRange z → Is (accepts (saved z))
 unfolding accepts rightLength
 saved-accepted z r =
-    both _ _ (eq-eqb (length (saved z)) blockLength (saved-length z (r .bankWords)))
-    (both _ _ (canonical-saved z) (subst (λ (c : Core). Is (inRange c)) (sym (core-saved z r)) (range-in z r)))
+    and-both _ _ (eq-eqb (length (saved z)) blockLength (saved-length z (r .bankWords)))
+    (and-both _ _ (canonical-saved z) (subst (λ (c : Core). Is (inRange c)) (sym (core-saved z r)) (range-in z r)))
 
 module _ (b : List ℕ) (h : Is (accepts b)) where
   pub accepted-length : length b ≡ blockLength
@@ -85,18 +83,28 @@ exact b bytes = record {
   back = λ s. loaded-one b (saves-one b s) ∙ ap decoded (sym (s .bytes)) ∙ decoded-saved (s .state) (s .ranges);
 }
 
-pub saved-loads : (z : Controller) → InRange z → SavedLoads z
+pub saved-loads : (z : Controller) → SavedLoads z
 unfolding loadCode
-saved-loads z r = record {
-  size = saved-length z (r .bankWords);
-  code = rw (saved-accepted z r);
-  back = loaded-one (saved z) (saved-accepted z r) ∙ decoded-saved z r;
+saved-loads z = record {
+  size = λ r. saved-length z (r .bankWords);
+  code = λ r. rw (saved-accepted z r);
+  back = λ r. loaded-one (saved z) (saved-accepted z r) ∙ decoded-saved z r;
+}
+
+waiting-order : (z : Controller) → WaitingOrder z
+waiting-order z = record {
+  names = λ m. flags-shown z m .tme;
+  once = λ r. r .core .transmit .queue .once;
+  wire = λ r m e. subst (λ (s : Sender). Is (carried s (z .core .transmit .queue .order))) e (r .core .transmit .queue .carries);
+  normal = λ r. r .core .wire .normal;
+  on = λ r. r .core .wire .on;
 }
 
 from-block : (b : List ℕ) → Bytes b → Is (accepts b) → FromBlock b
 from-block b bytes h = record {
-  ranges = subst InRange (sym (loaded-one b h)) (accepted-range b h bytes);
   same = ap saved (loaded-one b h) ∙ saved-again b h bytes;
+  ranges = subst InRange (sym (loaded-one b h)) (accepted-range b h bytes);
+  order = waiting-order (loaded b);
   demand = λ l. from-state (loaded b) l;
 }
 

@@ -10,7 +10,7 @@ use Rattle.model.specs.Records.{Bytes}
 use Rattle.model.specs.Script.{number16, number32}
 use Rattle.model.specs.declared.Mailbox.{Mailbox}
 use Rattle.model.specs.declared.Mailbox.the-variants.{M0, M1, M2}
-use Rattle.ranges.proofs.Ranged.{MailboxFits, FrameFits, FifoFits, Fits}
+use Rattle.ranges.specs.Ranges.{MailboxFits, FrameFits, FifoFits, Fits}
 use Rattle.block.specs.Block.{controlAt, errorsAt, mailboxAt, frameAt, fifoAt, wordsOf, transmitAt, coreAt, decoded}
 use Rattle.block.proofs.Banks.{words-length}
 

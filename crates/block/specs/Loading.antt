@@ -1,5 +1,5 @@
 -- Which blocks are accepted, what loading and saving give, and the promises about them. Document 02: Q-2.
-use mathlib.Core.Bool.{Bool, _&&_}
+use mathlib.Core.Bool.{Bool, _&&_, true, false, not}
 use mathlib.Core.List.{List}
 use mathlib.Core.Path.{_≡_}
 use Prim.Native.Nat.{ℕ}
@@ -7,10 +7,15 @@ use lib.Dec.{eqb}
 use lib.ListN.{length, drop}
 use lib.Seq.{sets}
 use Rattle.base.specs.Base.{pick}
-use Rattle.model.specs.Registers.{reset}
-use Rattle.model.specs.Reachable.{InRange}
+use Rattle.model.specs.Queue.{holds}
+use Rattle.model.specs.Control.{isNormal, boff}
+use Rattle.model.specs.Registers.{reset, isFree}
+use Rattle.model.specs.Shown.{tme}
+use Rattle.model.specs.Reachable.{InRange, distinct}
 use Rattle.model.specs.Records.{Bytes}
 use Rattle.model.specs.Anywhere.{FromState}
+use Rattle.model.specs.declared.Mailbox.{Mailbox}
+use Rattle.model.specs.declared.Sender.the-variants.{From}
 use Rattle.model.specs.declared.Core.{Core}
 use Rattle.model.specs.declared.Controller.{Controller}
 use Rattle.model.specs.declared.Step as steps
@@ -72,17 +77,27 @@ pub record Exact (b : List ℕ) : Type 0 where
 
 -- what was saved within the ranges has the right length, is accepted, and gives the state back
 pub record SavedLoads (z : Controller) : Type 0 where
-  pub size : length (saved z) ≡ blockLength
-  pub code : loadCode (saved z) ≡ 0
-  pub back : loaded (saved z) ≡ z
+  pub size : InRange z → length (saved z) ≡ blockLength
+  pub code : InRange z → loadCode (saved z) ≡ 0
+  pub back : InRange z → loaded (saved z) ≡ z
 
--- an accepted block: its state lies within the ranges, its bytes are that state's, and demand 3 holds of every list of steps from it
+-- the waiting order names each mailbox that isn't empty, as TSR shows it, once and no other; one on the wire is among them, with Normal mode and
+-- no bus-off
+pub record WaitingOrder (z : Controller) : Type 0 where
+  pub names : (m : Mailbox) → tme m z ≡ not (holds (z .core .transmit .queue .order) m)
+  pub once : InRange z → distinct (z .core .transmit .queue .order) ≡ true
+  pub wire : InRange z → (m : Mailbox) → z .core .transmit .queue .transmitting ≡ From m → holds (z .core .transmit .queue .order) m ≡ true
+  pub normal : InRange z → isFree (z .core) ≡ false → isNormal (z .core .control .mode) ≡ true
+  pub on : InRange z → isFree (z .core) ≡ false → boff (z .core .errors) ≡ false
+
+-- an accepted block: its bytes are those of the state in it, which lies within the ranges, and demand 3 holds of every list of steps from it
 pub record FromBlock (b : List ℕ) : Type 0 where
-  pub ranges : InRange (loaded b)
   pub same : saved (loaded b) ≡ b
+  pub ranges : InRange (loaded b)
+  pub order : WaitingOrder (loaded b)
   pub demand : (l : List steps.Step) → FromState (loaded b) l
 
--- of every row of bytes
+-- of every row of bytes, where 0 is the code of an accepted block
 pub record Blocks (b : List ℕ) : Type 0 where
   pub exact : Bytes b → Exact b
   pub from : Bytes b → loadCode b ≡ 0 → FromBlock b

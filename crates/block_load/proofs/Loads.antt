@@ -1,12 +1,12 @@
 -- What loading gives, by how its tests came out.
-use mathlib.Core.Bool.{Bool, true, false, _&&_}
+use mathlib.Core.Bool.{Bool, true, false}
 use mathlib.Core.List.{List}
 use mathlib.Core.Path.{_≡_, refl, sym, ap, _∙_}
 use Prim.Native.Nat.{ℕ}
 use lib.ListN.{length, drop}
 use borrow.Author.Tests.{eq-eqb, ne-eqb}
 use Rattle.base.specs.Base.{pick}
-use Rattle.base.proofs.Choices.{Is, Not}
+use Rattle.base.proofs.Choices.{Is, Not, and-not}
 use Rattle.model.specs.Registers.{reset}
 use Rattle.model.specs.declared.Core.{Core}
 use Rattle.model.specs.declared.Controller.{Controller}
@@ -24,17 +24,13 @@ pub short : (b : List ℕ) → (length b ≡ blockLength → ⊥) → Not (accep
 unfolding accepts rightLength
 short b h = rw (ne-eqb (length b) blockLength h)
 
-fails : (a b : Bool) → Not b → Not (a && b)
-fails true b h = h
-fails false b h = refl
-
 pub unformed : (b : List ℕ) → Not (canonical b) → Not (accepts b)
 unfolding accepts
-unformed b h = fails (rightLength b) _ (rw h)
+unformed b h = and-not (rightLength b) _ (rw h)
 
 pub unranged : (b : List ℕ) (c : Core) → c ≡ coreAt b → Not (inRange c) → Not (accepts b)
 unfolding accepts
-unranged b c e h = fails (rightLength b) _ (fails (canonical b) _ (ap inRange (sym e) ∙ h))
+unranged b c e h = and-not (rightLength b) _ (and-not (canonical b) _ (ap inRange (sym e) ∙ h))
 
 pub gives-reset : (b : List ℕ) → Not (accepts b) → refused ≡ loadedCore b
 unfolding loadedCore coreLoaded loadCode

@@ -1,12 +1,12 @@
 -- A call's answer and its block, by the way that it went.
-use mathlib.Core.Bool.{Bool, true, false, not, _&&_}
+use mathlib.Core.Bool.{not, _&&_}
 use mathlib.Core.List.{List}
-use mathlib.Core.Path.{_≡_, refl, sym, ap, _∙_}
+use mathlib.Core.Path.{_≡_, sym, ap, _∙_}
 use Prim.Native.Nat.{ℕ}
 use lib.Dec.{eqb}
 use lib.ListN.{length}
 use borrow.Author.Tests.{eq-eqb, ne-eqb}
-use Rattle.base.proofs.Choices.{Is, Not}
+use Rattle.base.proofs.Choices.{Is, Not, and-not}
 use Rattle.model.specs.Step.{refusal, step}
 use Rattle.model.specs.Shown.{isRead}
 use Rattle.model.specs.declared.Controller.{Controller}
@@ -36,13 +36,9 @@ pub no-board : (board : ℕ) (b : List ℕ) (e : steps.Step) → (board ≡ 0 �
 unfolding takes isBoard
 no-board board b e h = not-taken board b e (rw (ne-eqb board 0 h))
 
-and-false : (a b : Bool) → Not b → Not (a && b)
-and-false true b h = h
-and-false false b h = refl
-
 pub not-loaded : (board : ℕ) (b : List ℕ) (e : steps.Step) (l : LoadedCore) → l ≡ loadedCore b → (l .code ≡ 0 → ⊥) → Gives board b e 10 b
 unfolding takes loadedCore loadCode
-not-loaded board b e l p h = not-taken board b e (and-false (isBoard board) (accepts b) (code-other (accepts b) (l .code) (ap (λ (x : LoadedCore). x .code) p) h))
+not-loaded board b e l p h = not-taken board b e (and-not (isBoard board) (accepts b) (code-other (accepts b) (l .code) (ap (λ (x : LoadedCore). x .code) p) h))
 
 -- ---- a block that is taken, its core, its banks' words, and the step of these
 
@@ -76,7 +72,7 @@ module _ (board : ℕ) (b : List ℕ) (e : steps.Step) (h : board ≡ 0) (l : Lo
 
   pub read-leaves : Is (isRead e) → b ≡ blockAfter board b e
   unfolding blockAfter
-  read-leaves r = rw (and-false (takes board b) (changes b e) (and-false (eqb (step (loaded b) e .code) 0) (not (isRead e)) (rw r)))
+  read-leaves r = rw (and-not (takes board b) (changes b e) (and-not (eqb (step (loaded b) e .code) 0) (not (isRead e)) (rw r)))
 
   module _ (z : s .code ≡ 0) (n : Not (isRead e)) where
     changing : Is (takes board b && changes b e)

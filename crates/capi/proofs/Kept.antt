@@ -9,7 +9,7 @@ use lib.ListN.{length}
 use lib.Seq.{sets}
 use borrow.Author.Tests.{eq-eqb, ne-eqb, eqb-true}
 use Rattle.base.specs.Base.{pick, bit, one}
-use Rattle.base.proofs.Choices.{Is, Not, and-l, one-le}
+use Rattle.base.proofs.Choices.{Is, Not, and-l, one-le, and-not}
 use Rattle.model.specs.Control.{modeNext, isInitialization, isSleep, inrq, sleep, boff, entered, statusLine}
 use Rattle.model.specs.Control as control
 use Rattle.model.specs.Reception.{fifoLine}
@@ -18,7 +18,7 @@ use Rattle.model.specs.Step.{refusal, step, answered, coreAfter, banksAfter, ap
 use Rattle.model.specs.Shown.{isRead}
 use Rattle.model.specs.Reachable.{InRange, StepsRange}
 use Rattle.model.specs.Records.{Bytes}
-use Rattle.model.specs.Requests.{after}
+use Rattle.model.specs.Requests.{startWord, after, entries}
 use Rattle.model.specs.declared.Mode.{Mode}
 use Rattle.model.specs.declared.Mode.the-variants.{Sleep, Initialization, Normal}
 use Rattle.model.specs.declared.Control.{Control}
@@ -28,7 +28,7 @@ use Rattle.model.specs.declared.Stepped as answers
 use Rattle.model.specs.declared.Step as steps
 use Rattle.model.specs.declared.Step.the-variants.{Reset, Read, Write, Idle, BitTimes, Activity, Start, Outcome, Receive, ReceiveError}
 use Rattle.model.proofs.Coded.{codes, refused}
-use Rattle.model.proofs.Reached.{step-in-range, after-in-range}
+use Rattle.model.proofs.Reached.{reset-in-range, step-in-range, after-in-range}
 use Rattle.model.proofs.FromAnywhere.{from-state, hardware-reset}
 use Rattle.writes.specs.Places.{changed, changed-none}
 use Rattle.controller.specs.After.{placeAfter, valueAfter, coreStep, coreStepAt, whole-step}
@@ -38,7 +38,7 @@ use Rattle.block.proofs.Lengths.{core-length}
 use Rattle.block.proofs.Stores.{past-head}
 use Rattle.block.proofs.Exactly.{blocks, saved-loads, code-zero}
 use Rattle.capi.specs.Calls.{isBoard, blockSize, fits, takes, packed, answer, changes, blockAfter, resetAnswer, blockReset}
-use Rattle.capi.specs.Promises.{codeIn, linesIn, unusedIn, wordIn, Refused, Stepped, Resets, blockBehind, Called, Promises}
+use Rattle.capi.specs.Promises.{codeIn, linesIn, unusedIn, wordIn, BlockRefused, BlockStepped, Resets, blockBehind, callEntries, Called, Promises}
 use Rattle.capi.proofs.Called.{no-board}
 
 -- ---- a read changes nothing, since the mode has followed INRQ and SLEEP
@@ -134,11 +134,11 @@ banks-kept z e k p =
 
 module _ (z : Controller) (r : InRange z) where
   loads : loaded (saved z) ≡ z
-  loads = saved-loads z r .back
+  loads = saved-loads z .back r
 
   accepted-here : Is (accepts (saved z))
   unfolding loadCode
-  accepted-here = code-zero (accepts (saved z)) (saved-loads z r .code)
+  accepted-here = code-zero (accepts (saved z)) (saved-loads z .code r)
 
   taken : Is (takes 0 (saved z))
   unfolding takes isBoard
@@ -201,7 +201,7 @@ module _ (z : Controller) (r : InRange z) where
   next-is : (e : steps.Step) → step z e .controller ≡ step (loaded (saved z)) e .controller
   next-is e = ap (λ (a : answers.Stepped). a .controller) (here e)
 
-  stepped : (e : steps.Step) → Stepped (saved z) e
+  stepped : (e : steps.Step) → BlockStepped (saved z) e
   stepped e = record {
     code = code-is e ∙ ap (λ (a : answers.Stepped). a .code) (here e);
     lines = ap linesIn (answer-is e) ∙ lines-in _ _ (step z e .word) (code-small e) (lines-small z e) ∙ ap (λ (a : answers.Stepped). a .lines) (here e);
@@ -209,7 +209,7 @@ module _ (z : Controller) (r : InRange z) where
     unused = ap unusedIn (answer-is e) ∙ unused-in _ _ (step z e .word) (code-small e) (lines-small z e);
     block = block-next e ∙ ap saved (next-is e);
     stays = λ h. block-next e ∙ ap saved (refused z e (ap (λ (c : ℕ). eqb c 0) (sym (code-is e)) ∙ h) .kept);
-    next = λ q. ap loaded (block-next e) ∙ saved-loads (step z e .controller) (step-in-range z e r q) .back ∙ next-is e;
+    next = λ q. ap loaded (block-next e) ∙ saved-loads (step z e .controller) .back (step-in-range z e r q) ∙ next-is e;
     accepted = λ q. record { state = step z e .controller; ranges = step-in-range z e r q; bytes = sym (block-next e) };
   }
 
@@ -220,11 +220,21 @@ behind-from [] z r q = refl
 behind-from (e ∷ l) z r q =
     ap (λ (x : List ℕ). blockBehind x l) (block-next z r e) ∙ behind-from l (step z e .controller) (step-in-range z e r (q .0)) (q .1)
 
+fed-from : (l : List steps.Step) (z : Controller) → InRange z → StepsRange l → callEntries (saved z) l ≡ entries z l
+unfolding callEntries entries
+fed-from [] z r q = refl
+fed-from (e ∷ l) z r q =
+    let t = stepped z r e in
+    let c : codeIn (answer 0 (saved z) e) ≡ step z e .code = code-is z r e in
+    let w : wordIn (answer 0 (saved z) e) ≡ step z e .word = t .word ∙ ap (λ (a : answers.Stepped). a .word) (sym (here z r e)) in
+    let f : callEntries (blockAfter 0 (saved z) e) l ≡ entries (step z e .controller) l = ap (λ (x : List ℕ). callEntries x l) (block-next z r e) ∙ fed-from l (step z e .controller) (step-in-range z e r (q .0)) (q .1) in
+    λ i. record { step = e; code = c i; word = startWord e (w i) } ∷ f i
+
 -- ---- of any bytes
 
 module _ (b : List ℕ) (s : Saves b) where
-  from-saved : (e : steps.Step) → Stepped b e
-  from-saved e = subst (λ (x : List ℕ). Stepped x e) (s .bytes) (stepped (s .state) (s .ranges) e)
+  from-saved : (e : steps.Step) → BlockStepped b e
+  from-saved e = subst (λ (x : List ℕ). BlockStepped x e) (s .bytes) (stepped (s .state) (s .ranges) e)
 
   state-is : loaded b ≡ s .state
   state-is = ap loaded (sym (s .bytes)) ∙ loads (s .state) (s .ranges)
@@ -240,7 +250,8 @@ module _ (b : List ℕ) (s : Saves b) where
   called : (l : List steps.Step) → Called b l
   called l = record {
     block = behind l;
-    reachable = λ q. let r = after-in-range (loaded b) l ranges-here q in subst InRange (sym (ap loaded (behind l q) ∙ loads (after (loaded b) l) r)) r;
+    accepted = λ q. record { state = after (loaded b) l; ranges = after-in-range (loaded b) l ranges-here q; bytes = sym (behind l q) };
+    fed = λ q. ap (λ (x : List ℕ). callEntries x l) (sym (s .bytes)) ∙ (fed-from l (s .state) (s .ranges) q ∙ ap (λ (z : Controller). entries z l) (sym state-is));
     demand = from-state (loaded b) l;
   }
 
@@ -261,17 +272,13 @@ left-alone : (board : ℕ) (b : List ℕ) (e : steps.Step) → Not (takes board 
 unfolding blockAfter
 left-alone board b e h = rw h
 
-neither : (a : Bool) → Not (a && false)
-neither true = refl
-neither false = refl
-
 not-saved : (board : ℕ) (b : List ℕ) → Bytes b → (Saves b → ⊥) → Not (takes board b)
 unfolding takes loadCode
 not-saved board b bytes h = go (accepts b) refl
   where
     go : (t : Bool) → accepts b ≡ t → Not (isBoard board && t)
     go true q = absurd (h (blocks b .exact bytes .accepted (rw q)))
-    go false q = neither (isBoard board)
+    go false q = and-not (isBoard board) false refl
 
 board-zero : (board : ℕ) (b : List ℕ) → Is (takes board b) → board ≡ 0
 unfolding takes isBoard
@@ -287,7 +294,7 @@ not-taken board b e bytes h = go (takes board b) refl
         absurd (never-ten b e (taken-saves b bytes (subst (λ (k : ℕ). Is (takes k b)) n q)) (subst (λ (k : ℕ). codeIn (answer k b e) ≡ 10) n h))
     go false q = refl
 
-refusals : (board : ℕ) (b : List ℕ) (e : steps.Step) → Bytes b → Refused board b e
+refusals : (board : ℕ) (b : List ℕ) (e : steps.Step) → Bytes b → BlockRefused board b e
 refusals board b e bytes = record {
   code = λ h k s. never-ten b e s (subst (λ (n : ℕ). codeIn (answer n b e) ≡ 10) k h);
   unknown = λ h. sym (no-board board b e h .0);
@@ -306,6 +313,17 @@ resets-wrong : (board : ℕ) (b : List ℕ) → Not (fits board b) → (resetAns
 unfolding resetAnswer blockReset
 resets-wrong board b h = (rw h, rw h)
 
+same-reset : (b : List ℕ) → Saves b → (resetAnswer 0 b ≡ answer 0 b Reset) × (blockReset 0 b ≡ blockAfter 0 b Reset)
+unfolding fits isBoard rightLength
+same-reset b s =
+    let n : length b ≡ blockLength = ap length (sym (s .bytes)) ∙ saved-loads (s .state) .size (s .ranges) in
+    let r = resets-right 0 b (rw (eq-eqb (length b) blockLength n)) in
+    let z : Controller = s .state in
+    let k : answer 0 b Reset ≡ packed (step z Reset .code) (step z Reset .lines) (step z Reset .word) = ap (λ (x : List ℕ). answer 0 x Reset) (sym (s .bytes)) ∙ answer-is z (s .ranges) Reset in
+    let h = hardware-reset z in
+    let p : packed (step z Reset .code) (step z Reset .lines) (step z Reset .word) ≡ 0 = rw (h .code, h .lines, h .word) in
+    (r .0 ∙ sym (k ∙ p), r .1 ∙ sym (from-saved b s Reset .block ∙ ap saved (hardware-reset (loaded b) .controller)))
+
 resets : (board : ℕ) (b : List ℕ) → Resets board b
 unfolding fits isBoard rightLength blockSize
 resets board b = record {
@@ -313,18 +331,25 @@ resets board b = record {
   wrong = λ n. resets-wrong board b (go (eqb board 0) refl n);
   none = λ h. resets-wrong board b (rw (ne-eqb board 0 h));
   step = λ z. hardware-reset z .controller;
+  accepted = record { state = reset; ranges = reset-in-range; bytes = refl };
+  same = same-reset b;
 }
   where
     go : (t : Bool) → eqb board 0 ≡ t → (length b ≡ blockSize board → ⊥) → Not (t && eqb (length b) blockLength)
     go true q n = ne-eqb (length b) blockLength (λ e. n (e ∙ rw q))
     go false q n = refl
 
+sizes : (board : ℕ) → (blockSize 0 ≡ 354) × ((board ≡ 0 → ⊥) → blockSize board ≡ 0)
+unfolding blockSize isBoard
+sizes board = (refl, λ h. rw (ne-eqb board 0 h))
+
 -- ---- the promises
 
 pub promises : Promises
 promises = record {
   refused = refusals;
-  stepped = λ b e bytes h. from-saved b (taken-saves b bytes h) e;
+  stepped = λ b e s. from-saved b s e;
   resets = resets;
-  called = λ b l bytes h. called b (taken-saves b bytes h) l;
+  size = (sizes 0 .0, λ board. sizes board .1);
+  called = λ b l s. called b s l;
 }

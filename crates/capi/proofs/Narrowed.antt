@@ -7,7 +7,7 @@ use native.Mathlib.Omega.{arith}
 use lib.Dec.{eqb, ltb, leb}
 use borrow.Author.Tests.{eqb-true, ltb-true, ne-eqb, lt-leb, lt-ltb, le-ltb}
 use Rattle.base.specs.Base.{pick, bit, bits}
-use Rattle.base.proofs.Choices.{Is, Not}
+use Rattle.base.proofs.Choices.{Is, Not, and-not}
 use Rattle.model.specs.Registers.{bankCount}
 use Rattle.model.specs.Step.{step}
 use Rattle.model.specs.Codes.{inMap, notMapped, outOfRange}
@@ -30,13 +30,9 @@ same-step z s t k n p q =
     λ i. record { controller = (f .kept ∙ sym (g .kept)) i; code = (p ∙ sym q) i; lines = (f .lines ∙ sym (g .lines)) i; word = (f .word ∙ sym (g .word)) i }
 
 -- the call of a refused step leaves the block
-and-false : (a b : Bool) → Not b → Not (a && b)
-and-false true b h = h
-and-false false b h = refl
-
 left : (board : ℕ) (b : List ℕ) (s : steps.Step) → Not (eqb (step (loaded b) s .code) 0) → blockAfter board b s ≡ b
 unfolding blockAfter
-left board b s h = rw (and-false (takes board b) (changes b s) (rw h))
+left board b s h = rw (and-not (takes board b) (changes b s) (rw h))
 
 answered-as : (board : ℕ) (b : List ℕ) (s t : steps.Step) → step (loaded b) s ≡ step (loaded b) t → answer board b s ≡ answer board b t
 unfolding answer
@@ -107,7 +103,7 @@ module _ (board : ℕ) (b : List ℕ) (r : ℕ) (d : List ℕ) where
   count-narrowed n g = by-width n 65535 (λ n. Gives board b (BitTimes n) r d) 0 g (λ h. out-of-range board b (BitTimes 0) (BitTimes n) r d refl (many n h))
     where
       many : (n : ℕ) → 65535 < n → Is (outOfRange (BitTimes n))
-      many n h = rw (lt-leb n 65535 h) (ap not (and-false (leb 1 n) false refl))
+      many n h = rw (lt-leb n 65535 h) (ap not (and-not (leb 1 n) false refl))
 
   pub result-narrowed : (n : ℕ) → Gives board b (Outcome (narrow.byte n)) r d → Gives board b (Outcome n) r d
   unfolding narrow.byte
@@ -134,4 +130,4 @@ module _ (board : ℕ) (b : List ℕ) (r : ℕ) (d : List ℕ) where
   unfolding narrow.byte
   step-narrowed k n g =
       by-width n 255 (λ n. Gives board b (ReceiveError k n) r d) 255 g
-      (λ h. out-of-range board b (ReceiveError k 255) (ReceiveError k n) r d (ap not (and-false (leb 1 k && leb k 6) false refl)) (rw (ne-eqb n 1 (λ e. omega arith), ne-eqb n 8 (λ e. omega arith)) (ap not (and-false (leb 1 k && leb k 6) false refl))))
+      (λ h. out-of-range board b (ReceiveError k 255) (ReceiveError k n) r d (ap not (and-not (leb 1 k && leb k 6) false refl)) (rw (ne-eqb n 1 (λ e. omega arith), ne-eqb n 8 (λ e. omega arith)) (ap not (and-not (leb 1 k && leb k 6) false refl))))

@@ -41,7 +41,8 @@ answer board b e = pick (takes board b) (packed (step (loaded b) e .code) (step 
 abbrev pub changes : List ℕ → steps.Step → Bool
 changes b e = eqb (step (loaded b) e .code) 0 && not (isRead e)
 
--- all is written where the step writes a bank's word, else all but the field of the banks; a block that is refused stays as it was
+-- a refused block, a refused step and a read leave the bytes; else all is written where the step writes a bank's word, and all but the
+-- field of the banks where it writes none
 unfoldable pub blockAfter : ℕ → List ℕ → steps.Step → List ℕ
 blockAfter board b e =
     pick (takes board b && changes b e)

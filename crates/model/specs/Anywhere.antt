@@ -44,7 +44,7 @@ pub record OfScripts (s : List ℕ) (space : ℕ) : Type 0 where
 
 -- ---- any start
 
--- the requests that a controller holds
+-- the requests that a controller holds: what an observer has who begins with it, as when it is loaded
 abbrev pub requestsHeld : Controller → Requests
 requestsHeld z = record {
   outstanding = record { m0 = hasRequest (z .core) M0; m1 = hasRequest (z .core) M1; m2 = hasRequest (z .core) M2 };

@@ -1,5 +1,6 @@
--- What holds of every state that steps reach from hardware reset: the range of each field, and how fields go together.
--- Each word holds only the bits that its mask lets through. Document 01 does not list these ranges; they follow from its rules.
+-- What holds of every state that steps reach from hardware reset or from a loaded block: the range of each field, and how fields go
+-- together. Each word holds only the bits that its mask lets through. Document 01 does not list these ranges; they follow from its rules,
+-- and are the listed ranges of document 02, Q-2 (docs/BLOCK.md).
 use mathlib.Core.Bool.{Bool, true, false, not, _&&_}
 use mathlib.Core.List.{List, [], _∷_}
 use mathlib.Core.Path.{_≡_}

@@ -11,8 +11,8 @@ use Rattle.model.specs.Queue.{holds, flag, isFrom}
 use Rattle.model.specs.Mailboxes.{at}
 use Rattle.model.specs.Reception.{dataBytes, bytesKept, noFrame}
 use Rattle.model.specs.Control.{inrq, sleep, ttcm, modeNext, modeBits, isInitialization, isNormal, boff}
-use Rattle.model.specs.Registers.{bankCount, isFree}
-use Rattle.model.specs.Reachable.{frameOf, silent, QueueRange, MailboxRange, TransmitRange, FrameRange, FifoRange, FilterRange, Words, ControlRange, ErrorRange, RecoveryRange, WireRange, CoreRange, Followed, InRange}
+use Rattle.model.specs.Registers.{isFree}
+use Rattle.model.specs.Reachable.{frameOf, silent, QueueRange, MailboxRange, TransmitRange, FrameRange, FifoRange, FilterRange, ControlRange, ErrorRange, RecoveryRange, WireRange, CoreRange, Followed, InRange}
 use Rattle.model.specs.declared.Mailbox.{Mailbox}
 use Rattle.model.specs.declared.Mailbox.the-variants.{M0, M1, M2}
 use Rattle.model.specs.declared.Queue.{Queue}
@@ -27,7 +27,7 @@ use Rattle.model.specs.declared.Control.{Control}
 use Rattle.model.specs.declared.Errors.{Errors}
 use Rattle.model.specs.declared.Core.{Core}
 use Rattle.model.specs.declared.Controller.{Controller}
-use Rattle.ranges.specs.Ranges.{queueTests, mailboxTests, transmitTests, frameTests, noFrameTests, fifoTests, placeOk, filtersTests, controlTests, errorsTests, recoveryTests, wireTests, coreTests, atMostOne, noneBehind, queueOk, mailboxOk, transmitOk, frameOk, isNoFrame, fifoOk, filtersOk, controlOk, errorsOk, recoveryOk, wireOk, followedOk, inRange}
+use Rattle.ranges.specs.Ranges.{queueTests, mailboxTests, transmitTests, frameTests, noFrameTests, fifoTests, placeOk, filtersTests, controlTests, errorsTests, recoveryTests, wireTests, coreTests, atMostOne, noneBehind, queueOk, mailboxOk, transmitOk, frameOk, isNoFrame, fifoOk, filtersOk, controlOk, errorsOk, recoveryOk, wireOk, followedOk, inRange, MailboxFits, FrameFits, FifoFits, Fits, Ranged}
 use Rattle.model.proofs.FifoRanges.{no-frame-range}
 use Rattle.receive.proofs.Masks.{data-bytes-le}
 use Rattle.ranges.proofs.Tests.{Is, to-each, from-each, if-in, if-out, unless-in, unless-out, not-in, not-out}
@@ -72,12 +72,6 @@ one-out false false false h = omega arith
 mailbox-in : (x : MailboxState) (p : Bool) → MailboxRange x → (p ≡ true → x .rqcp ≡ false) → Is (mailboxOk x p)
 unfolding mailboxOk
 mailbox-in x p r f = from-each (mailboxTests x p) (eq-eqb _ _ (r .even), (eq-eqb _ _ (r .tdt), (if-in _ _ (r .completes), (one-in (x .txok) (x .alst) (x .terr) (r .result), (if-in _ _ (λ e. not-in _ (f e)), tt)))))
-
--- the words of a mailbox are words
-pub record MailboxFits (x : MailboxState) : Type 0 where
-  pub ti : x .ti < 2 ^ 32
-  pub tdl : x .tdl < 2 ^ 32
-  pub tdh : x .tdh < 2 ^ 32
 
 mailbox-out : (x : MailboxState) (p : Bool) → MailboxFits x → Is (mailboxOk x p) → MailboxRange x × (p ≡ true → x .rqcp ≡ false)
 unfolding mailboxOk
@@ -155,12 +149,6 @@ frame-in x r =
       ),
     )
 
-pub record FrameFits (x : StoredFrame) : Type 0 where
-  pub ri : x .ri < 2 ^ 32
-  pub rdt : x .rdt < 2 ^ 32
-  pub rdl : x .rdl < 2 ^ 32
-  pub rdh : x .rdh < 2 ^ 32
-
 frame-out : (x : StoredFrame) → FrameFits x → Is (frameOk x) → FrameRange x
 unfolding frameOk noneBehind
 frame-out x w h =
@@ -210,11 +198,6 @@ fifo-in q r =
         ),
       ),
     )
-
-pub record FifoFits (q : FifoState) : Type 0 where
-  pub first : FrameFits (q .first)
-  pub second : FrameFits (q .second)
-  pub third : FrameFits (q .third)
 
 none-below : (n m : ℕ) → m ≤ n → ltb n m ≡ false
 none-below n m h = go (ltb n m) refl
@@ -334,16 +317,6 @@ followed-out c h = λ f. same-mode _ _ (eqb-true _ _ (if-out (isFree c) (eqb (mo
 
 -- ---- the controller
 
--- numbers that fit the widths of their fields
-pub record Fits (z : Controller) : Type 0 where
-  pub timer : z .core .control .timer < 65536
-  pub rec : z .core .errors .rec ≤ 255
-  pub mailboxes : (m : Mailbox) → MailboxFits (at (z .core .transmit .mailboxes) m)
-  pub fifo0 : FifoFits (z .core .fifo0)
-  pub fifo1 : FifoFits (z .core .fifo1)
-  pub bankWords : length (z .banks) ≡ 2 * bankCount
-  pub banks : Words (z .banks)
-
 pub range-in : (z : Controller) → InRange z → Is (inRange (z .core))
 unfolding inRange
 range-in z r =
@@ -371,3 +344,6 @@ range-out z w h =
       bankWords = w .bankWords;
       banks = w .banks;
     }
+
+pub ranged : (z : Controller) → Ranged z
+ranged z = record { inside = range-in z; outside = range-out z }

@@ -1,16 +1,19 @@
 -- The ranges of a controller's fields as tests: those of the model's `InRange` (specs/Reachable.antt) that the widths of the fields
--- do not give. They are proved equivalent to it: proofs/Ranged.antt, `range-in` and `range-out`. Document 02: Q-2.
+-- do not give. `Ranged`, below, says that they are the same. Document 02: Q-2.
 use mathlib.Core.Bool.{Bool, true, not, _&&_, _||_}
 use mathlib.Core.List.{List, [], _∷_}
-use Prim.Native.Nat.{ℕ, _+_, _*_, _/_, _^_}
+use mathlib.Core.Path.{_≡_}
+use Prim.Native.Nat.{ℕ, _+_, _*_, _/_, _^_, _<_, _≤_}
 use lib.Dec.{eqb, ltb, leb}
+use lib.ListN.{length}
 use Rattle.base.specs.Base.{pick, bit, bits}
 use Rattle.model.specs.Queue.{holds, isFrom}
-use Rattle.model.specs.Mailboxes.{tdtMasked}
+use Rattle.model.specs.Mailboxes.{at, tdtMasked}
 use Rattle.model.specs.Reception.{dataBytes}
 use Rattle.model.specs.Control.{inrq, sleep, ttcm, modeNext, modeBits, isSleep, isInitialization, isNormal, boff, mcrMasked, ierMasked, btrMasked}
 use Rattle.model.specs.Registers.{bankCount, filterMasked, isFree}
-use Rattle.model.specs.Reachable.{distinct, carried, frameOf, silent}
+use Rattle.model.specs.Reachable.{distinct, carried, frameOf, silent, Words, InRange}
+use Rattle.model.specs.declared.Mailbox.{Mailbox}
 use Rattle.model.specs.declared.Mailbox.the-variants.{M0, M1, M2}
 use Rattle.model.specs.declared.Queue.{Queue}
 use Rattle.model.specs.declared.MailboxState.{MailboxState}
@@ -21,6 +24,7 @@ use Rattle.model.specs.declared.Filters.{Filters}
 use Rattle.model.specs.declared.Control.{Control}
 use Rattle.model.specs.declared.Errors.{Errors}
 use Rattle.model.specs.declared.Core.{Core}
+use Rattle.model.specs.declared.Controller.{Controller}
 
 -- every test of a list holds
 abbrev pub all : List Bool → Bool
@@ -180,3 +184,34 @@ coreTests c =
 
 unfoldable pub inRange : Core → Bool
 inRange c = all (coreTests c)
+
+-- ---- the tests are the ranges of the model, of numbers that fit the widths of their fields
+
+pub record MailboxFits (x : MailboxState) : Type 0 where
+  pub ti : x .ti < 2 ^ 32
+  pub tdl : x .tdl < 2 ^ 32
+  pub tdh : x .tdh < 2 ^ 32
+
+pub record FrameFits (x : StoredFrame) : Type 0 where
+  pub ri : x .ri < 2 ^ 32
+  pub rdt : x .rdt < 2 ^ 32
+  pub rdl : x .rdl < 2 ^ 32
+  pub rdh : x .rdh < 2 ^ 32
+
+pub record FifoFits (q : FifoState) : Type 0 where
+  pub first : FrameFits (q .first)
+  pub second : FrameFits (q .second)
+  pub third : FrameFits (q .third)
+
+pub record Fits (z : Controller) : Type 0 where
+  pub timer : z .core .control .timer < 65536
+  pub rec : z .core .errors .rec ≤ 255
+  pub mailboxes : (m : Mailbox) → MailboxFits (at (z .core .transmit .mailboxes) m)
+  pub fifo0 : FifoFits (z .core .fifo0)
+  pub fifo1 : FifoFits (z .core .fifo1)
+  pub bankWords : length (z .banks) ≡ 2 * bankCount
+  pub banks : Words (z .banks)
+
+pub record Ranged (z : Controller) : Type 0 where
+  pub inside : InRange z → inRange (z .core) ≡ true
+  pub outside : Fits z → inRange (z .core) ≡ true → InRange z
