@@ -6,12 +6,13 @@ use Prim.Native.Nat.{ℕ}
 use lib.ListN.{replicate, set}
 use Rattle.model.specs.Registers.{reset}
 use Rattle.model.specs.Reception.{noFrame}
+use Rattle.model.specs.Records.{bytesOf}
 use Rattle.model.specs.declared.Mailbox.the-variants.{M0, M2}
 use Rattle.model.specs.declared.Sender.the-variants.{From}
 use Rattle.model.specs.declared.RequestOrder.the-variants.{Two}
 use Rattle.model.specs.declared.Mode.the-variants.{Normal}
 use Rattle.model.specs.declared.Controller.{Controller}
-use Rattle.block.specs.Block.{saved}
+use Rattle.block.specs.Block.{bytes16, bytes32, saved}
 use Rattle.block.specs.Loading.{loadCode, loaded}
 
 -- ---- the reset state: all but these bytes are 0
@@ -103,6 +104,11 @@ beyond = set (set busyBlock 26 0x08) 27 0x01
 
 abbrev pub unasked : List ℕ
 unasked = set busyBlock 105 1
+
+-- numbers stand in a block as in a record of a script
+pub record Numbers (n : ℕ) : Type 0 where
+  pub two : bytes16 n ≡ bytesOf 2 n
+  pub four : bytes32 n ≡ bytesOf 4 n
 
 pub record Samples : Type 0 where
   pub resets : saved reset ≡ resetBlock

@@ -1,15 +1,10 @@
 // Numbers, low byte first, and flags in bytes.
 ghost use mathlib.Core.Path.{_≡_};
-ghost use Prim.Native.Nat.{_+_, _*_, _<_, _≤_};
+ghost use Prim.Native.Nat.{_+_, _<_, _≤_};
 ghost use lib.ListN.{length};
 ghost use Rattle.model.specs.Script as scripts;
 ghost use Rattle.block.specs.Block as blocks;
-
-fn pair(low: u8, high: u8) -> u16
-    ensures { λ r. ⌜ r ≡ low + high * 256 ⌝ }
-{
-    (low as u16) + (high as u16) * 256
-}
+use records::decode::pair;
 
 pub(crate) fn number16(b: &[u8], i: usize) -> u16
     requires { ⌜ i + 2 ≤ length (now b) ⌝ }

@@ -131,7 +131,7 @@ pub fn ti_written(x: MailboxState, w: u32) -> MailboxState
 }
 
 // The writable bits are 0xFFFF010F.
-fn tdt_masked(w: u32) -> u32
+pub fn tdt_masked(w: u32) -> u32
     ensures { λ r. ⌜ r ≡ mailboxes.tdtMasked w ⌝ }
 {
     (w >> 16) % 65536 * 65536 + (w >> 8) % 2 * 256 + w % 16

@@ -3,7 +3,6 @@ ghost use mathlib.Core.Path.{_≡_};
 ghost use Prim.Native.Nat.{_≤_};
 ghost use Rattle.model.specs.Reachable as reachable;
 ghost use Rattle.model.specs.Control as controls;
-ghost use Rattle.model.specs.Mailboxes as boxes;
 ghost use Rattle.model.specs.Queue as queues;
 ghost use Rattle.model.specs.Registers as map;
 ghost use Rattle.ranges.specs.Ranges as ranges;
@@ -60,12 +59,6 @@ fn queue_ok(q: Queue) -> bool
 
 // ---- mailboxes
 
-fn tdt_masked(w: u32) -> u32
-    ensures { λ r. ⌜ r ≡ boxes.tdtMasked w ⌝ }
-{
-    (w >> 16) % 65536 * 65536 + (w >> 8) % 2 * 256 + w % 16
-}
-
 fn one_result(a: bool, b: bool, c: bool) -> bool
     ensures { λ r. ⌜ r ≡ ranges.atMostOne a b c ⌝ }
 {
@@ -76,7 +69,7 @@ fn mailbox_ok(x: MailboxState, pending: bool) -> bool
     ensures { λ r. ⌜ r ≡ ranges.mailboxOk x pending ⌝ }
 {
     (x.ti / 2 * 2 == x.ti)
-        & ((tdt_masked(x.tdt) == x.tdt)
+        & ((mailboxes::tdt_masked(x.tdt) == x.tdt)
             & ((!x.txok | x.rqcp)
                 & (one_result(x.txok, x.alst, x.terr) & ((!pending | !x.rqcp) & true))))
 }
