@@ -132,7 +132,7 @@ pub const KINDS: [(&str, Kind); 26] = [
 ];
 
 /// The kinds that `mix` goes through.
-const PARTS: [Kind; 9] = [
+pub const PARTS: [Kind; 9] = [
     Kind::Transmit,
     Kind::Filters,
     Kind::Receive,

@@ -5,7 +5,7 @@ use crate::call_difference::{CallDifference, Difference, Outcome};
 use crate::call_tally::Tally;
 use crate::calls::{self, BOARD, CODE_BLOCK};
 use crate::fields::registers;
-use crate::generate::{generate, Kind};
+use crate::generate::{generate, Kind, PARTS};
 use crate::random_blocks::{beside, within, SHAPES};
 use crate::registers::identifier;
 use crate::rng::Rng;
@@ -43,20 +43,8 @@ const GUARD: usize = 16;
 const UNTOUCHED: u8 = 0xA5;
 const LONGEST: usize = 1000;
 
-/// The kinds of scripts whose steps are called.
-const KINDS: [Kind; 11] = [
-    Kind::Transmit,
-    Kind::Filters,
-    Kind::Receive,
-    Kind::Errors,
-    Kind::Recovery,
-    Kind::Modes,
-    Kind::Registers,
-    Kind::Loopback,
-    Kind::Wild,
-    Kind::MixInterrupts,
-    Kind::Any,
-];
+/// The kinds of scripts whose steps are called, beside those of `mix`.
+const MORE: [Kind; 2] = [Kind::MixInterrupts, Kind::Any];
 
 /// Boards that don't exist.
 const OTHER_BOARDS: [u32; 9] = [1, 2, 3, 28, 256, 65_536, 0x0100_0000, 1 << 31, u32::MAX];
@@ -102,7 +90,8 @@ pub fn compare(seed: u64, count: u64, library: &mut dyn Library) -> Result<Tally
         if run.tally.calls >= count {
             break;
         }
-        let kind = KINDS[number as usize % KINDS.len()];
+        let kinds = [&PARTS[..], &MORE].concat();
+        let kind = kinds[number as usize % kinds.len()];
         let script = generate(run.rng.next(), SCRIPT_RECORDS, kind);
         let taken = run.script(&mut block, &script)?;
         run.change_bytes(&taken, |_| number % ALL_VALUES == 0)?;
