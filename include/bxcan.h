@@ -61,6 +61,8 @@ extern "C" {
 #define BXCAN_ERROR_BIT_DOMINANT 5u  /* bit error: a dominant bit was sent and a recessive one seen */
 #define BXCAN_ERROR_CRC 6u           /* CRC error */
 #define BXCAN_END_LOST 7u            /* bxcan_own_end: arbitration was lost */
+#define BXCAN_END_ALONE 8u           /* bxcan_own_end: nobody acknowledged, and an error-passive node (EPVF=1) saw no dominant bit
+                                        during its error flag: as BXCAN_ERROR_ACK, LEC=3, but TEC stays (CAN 2.0) */
 
 /* ---- register offsets ---- */
 
@@ -119,8 +121,9 @@ uint64_t bxcan_activity(uint32_t board, uint8_t *block, size_t len);
  * send or the controller may not send: outside Normal, in bus-off, with an own frame on the wire, in silent mode without loopback. */
 uint64_t bxcan_start(uint32_t board, uint8_t *block, size_t len);
 
-/* The own frame ends: BXCAN_END_GOOD, BXCAN_END_LOST or one of BXCAN_ERROR_.. . BXCAN_OUT_OF_RANGE for another result;
- * BXCAN_WRONG_STATE with none on the wire, and for BXCAN_ERROR_ACK in loopback. */
+/* The own frame ends: BXCAN_END_GOOD, BXCAN_END_LOST, BXCAN_END_ALONE or one of BXCAN_ERROR_.. . BXCAN_OUT_OF_RANGE for another
+ * result; BXCAN_WRONG_STATE with none on the wire, for BXCAN_ERROR_ACK and BXCAN_END_ALONE in loopback, and for BXCAN_END_ALONE with
+ * EPVF=0. */
 uint64_t bxcan_own_end(uint32_t board, uint8_t *block, size_t len, uint32_t result);
 
 /* A frame of another node came without error. `identifier` is as in RI: bits 31 to 21 standard or 31 to 3 extended, bit 2 IDE, bit 1

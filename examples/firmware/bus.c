@@ -254,16 +254,24 @@ static void other_sends(void)
          bxcan_line_names(lines));
 }
 
-/* The frame of a mailbox is on the wire: how does it end? */
+static bool is_passive(void)
+{
+    uint64_t answer = bxcan_read(BOARD, block, length, BXCAN_ESR);
+    looked_at(answer, BXCAN_DONE, "read", BXCAN_ESR);
+    return (bxcan_word(answer) & CAN_ESR_EPVF) != 0;
+}
+
+/* The frame of a mailbox is on the wire: how does it end? Alone and error passive it sees no dominant bit during its error flag. */
 static void gate_sends(uint32_t mailbox)
 {
-    static const char *const ends[8] = {"sent",      "stuff error", "form error", "nobody acknowledges",
-                                        "bit error", "bit error",   "CRC error",  "lost"};
+    static const char *const ends[9] = {"sent",      "stuff error", "form error", "nobody acknowledges",
+                                        "bit error", "bit error",   "CRC error",  "lost",
+                                        "alone, error passive"};
     struct can_frame frame = mailbox_frame(mailbox);
     char end[40];
     uint32_t result = BXCAN_END_GOOD;
     if (condition == BUS_ALONE)
-        result = BXCAN_ERROR_ACK;
+        result = is_passive() ? BXCAN_END_ALONE : BXCAN_ERROR_ACK;
     else if (condition == BUS_SHORTED)
         result = BXCAN_ERROR_BIT_RECESSIVE;
     else if (other_count > 0 && wire_bits(identifier_of(&others[first_other()].frame)) < wire_bits(identifier_of(&frame)))

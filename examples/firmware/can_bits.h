@@ -31,6 +31,7 @@
 #define CAN_IER_BOFIE 0x00000400u
 #define CAN_IER_ERRIE 0x00008000u
 
+#define CAN_ESR_EPVF 0x00000002u
 #define CAN_ESR_BOFF 0x00000004u
 #define CAN_ESR_TEC(esr) ((esr) >> 16 & 0xFFu)
 

@@ -149,6 +149,22 @@ static void bus_off(void)
     expect_number(gate_can_counts().sent, 6, "sent by interrupt");
 }
 
+/* Nobody acknowledges, and the gate stays on the bus all the same: error passive, its TEC counts no further. */
+static void alone(void)
+{
+    title("6. Alone on the bus");
+    struct can_frame frame = report(0x22);
+    bus_is(BUS_ALONE);
+    gate_can_queue(&frame);
+    bus_passes(40);
+    expect_number((unsigned)CAN_ESR_TEC(can_read(BXCAN_ESR)), 128, "TEC after 40 tries");
+    tell("bus", "another node");
+    bus_is(BUS_GOOD);
+    bus_passes(1);
+    expect_number((unsigned)CAN_ESR_TEC(can_read(BXCAN_ESR)), 127, "TEC");
+    expect_number(gate_can_counts().sent, 7, "sent by interrupt");
+}
+
 static int save(const char *path)
 {
     FILE *file = fopen(path, "wb");
@@ -190,7 +206,7 @@ static void saved(const char *path)
 {
     uint8_t end[BXCAN_BLOCK_SIZE];
     struct can_frame frames[2] = {report(0x30), report(0x31)};
-    title("6. A block saved to a file, and back");
+    title("7. A block saved to a file, and back");
     tell("gate", "interrupts off");
     irq_disable();
     probe_wants(1, 60);
@@ -215,7 +231,7 @@ static void saved(const char *path)
     tell("bench", "the same traffic from the saved block ends in the same block");
     tell("gate", "interrupts on");
     irq_enable();
-    expect_number(gate_can_counts().sent, 8, "sent by interrupt");
+    expect_number(gate_can_counts().sent, 9, "sent by interrupt");
     expect_number(take_received(0), 2, "from the probes");
 }
 
@@ -235,7 +251,7 @@ static void refusals(void)
 {
     uint8_t *block = bus_block();
     size_t length = bus_block_length();
-    title("7. What is refused, and leaves the block as it was");
+    title("8. What is refused, and leaves the block as it was");
     memcpy(before, block, length);
     refused("a write to BTR outside Initialization", bxcan_write(BOARD, block, length, BXCAN_BTR, 0), BXCAN_LOCKED);
     refused("a write to the value of an active filter bank", bxcan_write(BOARD, block, length, BXCAN_FR1(0), 0), BXCAN_LOCKED);
@@ -264,6 +280,7 @@ int main(int argc, char **argv)
     sending();
     receiving();
     bus_off();
+    alone();
     saved(argc > 1 ? argv[1] : "gate.block");
     refusals();
     tell_rest();

@@ -74,8 +74,8 @@ static struct call random_end(enum phase phase)
     if (random_below(50) == 0)
         return call1(OWN_END, random_number());
     if (phase == ERRORS && random_below(20))
-        return call1(OWN_END, 1 + random_below(6));
-    return call1(OWN_END, random_below(2) ? 0 : random_below(9));
+        return call1(OWN_END, random_below(8) ? 1 + random_below(6) : 8);
+    return call1(OWN_END, random_below(2) ? 0 : random_below(10));
 }
 
 static struct call random_call(enum phase phase)

@@ -314,7 +314,7 @@ static void frame_numbers(void)
 
 static void own_end_numbers(void)
 {
-    static const uint32_t wrong[] = {8, 9, 0x100, 0x107, 0x10000, 0x80000000u, 0xFFFFFFFFu};
+    static const uint32_t wrong[] = {9, 10, 255, 0x100, 0x107, 0x108, 0x10000, 0x80000000u, 0xFFFFFFFFu};
     uint8_t *b = in_normal();
     test("an own end out of range, with a frame on the wire and without");
     for (size_t i = 0; i < sizeof wrong / sizeof wrong[0]; i++)
@@ -342,6 +342,56 @@ static void own_end_results(void)
         else
             expect(tsr == 0x0C080000 && esr == (8u << 16 | result << 4), "error: TERR2, still pending, TEC 8, LEC");
     }
+}
+
+/* Mailbox 2 is on the wire; before that, so many of its frames have ended by BXCAN_ERROR_ACK. */
+static uint8_t *after_tries(unsigned tries)
+{
+    uint8_t *b = in_normal();
+    writes(b, 0x1A0, 0x20000001);
+    for (unsigned i = 0; i < tries; i++) {
+        does(b, call0(START), BXCAN_DONE);
+        does(b, call1(OWN_END, BXCAN_ERROR_ACK), BXCAN_DONE);
+    }
+    does(b, call0(START), BXCAN_DONE);
+    return b;
+}
+
+static void end_alone(void)
+{
+    test("an end alone needs error passive");
+    uint8_t *b = after_tries(15);
+    expect(reads(b, 0x018) == (120u << 16 | 0x31), "TEC 120: EWGF");
+    does(b, call1(OWN_END, BXCAN_END_ALONE), BXCAN_WRONG_STATE);
+    does(b, call1(OWN_END, 9), BXCAN_OUT_OF_RANGE);
+    test("an end alone leaves TEC");
+    b = after_tries(16);
+    for (unsigned i = 0; i < 300; i++) {
+        does(b, call1(OWN_END, BXCAN_END_ALONE), BXCAN_DONE);
+        expect(reads(b, 0x018) == (128u << 16 | 0x33), "TEC 128, LEC 3, EPVF, EWGF");
+        expect(reads(b, 0x008) == 0x0C080000, "TERR2, still pending");
+        does(b, call1(OWN_END, BXCAN_END_ALONE), BXCAN_WRONG_STATE);
+        does(b, call1(OWN_END, 9), BXCAN_OUT_OF_RANGE);
+        does(b, call0(START), BXCAN_DONE);
+    }
+    does(b, call1(OWN_END, BXCAN_END_GOOD), BXCAN_DONE);
+    expect(reads(b, 0x018) == (127u << 16 | 0x01), "heard: TEC 127, error active");
+    expect(reads(b, 0x008) == 0x1C030000, "RQCP2, TXOK2");
+    test("an end alone, error passive by REC");
+    b = in_normal();
+    for (unsigned i = 0; i < 16; i++)
+        does(b, call2(RECEIVE_ERROR, BXCAN_ERROR_STUFF, 8), BXCAN_DONE);
+    writes(b, 0x1A0, 0x20000001);
+    writes(b, 0x014, 0x8800); /* ERRIE, LECIE */
+    does(b, call0(START), BXCAN_DONE);
+    uint64_t answer = bxcan_own_end(BOARD, b, LENGTH, BXCAN_END_ALONE);
+    expect(answer == (uint64_t)BXCAN_LINE_SCE << 8, "done, and SCE is up by LECIE");
+    expect(reads(b, 0x018) == (128u << 24 | 0x33), "REC 128, TEC 0, LEC 3");
+    test("an end alone with NART");
+    writes(b, 0x000, 0x10);
+    does(b, call0(START), BXCAN_DONE);
+    does(b, call1(OWN_END, BXCAN_END_ALONE), BXCAN_DONE);
+    expect(reads(b, 0x008) == 0x1C090000, "RQCP2, TERR2, empty");
 }
 
 /* Events that the state cannot have: in Sleep, in Normal, with a frame on the wire, in loopback. */
@@ -380,7 +430,12 @@ static void wrong_states(void)
     writes(b, 0x180, 1);
     does(b, call0(START), BXCAN_DONE);
     does(b, call1(OWN_END, BXCAN_ERROR_ACK), BXCAN_WRONG_STATE);
-    does(b, call1(OWN_END, BXCAN_ERROR_CRC), BXCAN_DONE);
+    for (unsigned i = 0; i < 16; i++) {
+        does(b, call1(OWN_END, BXCAN_END_ALONE), BXCAN_WRONG_STATE);
+        does(b, call1(OWN_END, BXCAN_ERROR_CRC), BXCAN_DONE);
+        does(b, call0(START), BXCAN_DONE);
+    }
+    does(b, call1(OWN_END, BXCAN_END_ALONE), BXCAN_WRONG_STATE);
 }
 
 /* ---- words and lines ---- */
@@ -485,6 +540,7 @@ int main(void)
     frame_numbers();
     own_end_numbers();
     own_end_results();
+    end_alone();
     wrong_states();
     received_words();
     interrupt_lines();

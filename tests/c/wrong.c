@@ -58,6 +58,10 @@
  * 54  offsets above the map are 0
  * 55  a reset leaves the filter banks
  * 56  arbitration lost is a good end
+ * 57  an end alone raises TEC
+ * 58  an end alone is accepted while error active
+ * 59  an end alone goes by TEC alone
+ * 60  a result of 9 is an end alone
  */
 #include <stdlib.h>
 #include <string.h>
@@ -187,6 +191,8 @@ static struct call changed_call(struct call c)
         c.n[0] = 0;
     if (v == 56 && c.which == OWN_END && a == 7)
         c.n[0] = 0;
+    if (v == 60 && c.which == OWN_END && a == 9)
+        c.n[0] = 8;
     return c;
 }
 
@@ -200,7 +206,7 @@ static bool instead(uint32_t board, uint8_t *b, size_t len, struct call c, uint6
         return v >= 41 || bxcan_code(__real_bxcan_read(board, b, len, 0)) == 10;
     *answer = v == 26 ? 1 : v == 27 ? 5 : 10;
     return (v == 16 && whole && c.which == RESET && b[0] != 0x40) || (v == 26 && odd) ||
-           (v == 27 && c.which == OWN_END && c.n[0] > 7);
+           (v == 27 && c.which == OWN_END && c.n[0] > 8);
 }
 
 static uint64_t afterwards(uint8_t *b, size_t len, struct call c, const uint8_t *before, uint64_t answer)
@@ -250,6 +256,13 @@ static uint64_t through(uint32_t board, uint8_t *b, size_t len, struct call c)
     if (v == 15 && len > LENGTH)
         len = LENGTH;
     c = changed_call(c);
+    if (c.which == OWN_END && c.n[0] == 8 && board == 0 && len == LENGTH) {
+        bool by_tec = b[27] > 0 || b[26] > 127, passive = by_tec || b[28] > 127;
+        if ((v == 57 && passive) || (v == 58 && !passive))
+            c.n[0] = 3;
+        if (v == 59 && !by_tec)
+            return (__real_bxcan_read(board, b, len, 1) & ~0xFFull) | 4;
+    }
     if (instead(board, b, len, c, &answer))
         return answer;
     bool exchange = v == 53 && c.which == START && len == LENGTH && board == 0;

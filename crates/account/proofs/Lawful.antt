@@ -10,7 +10,7 @@ use lib.ListN.{length, getD}
 use borrow.Author.Tests.{ltb-true, ltb-false, lt-leb, le-leb}
 use Rattle.base.specs.Base.{pick, bit, bits, one}
 use Rattle.model.specs.Queue.{isEmpty}
-use Rattle.model.specs.Control.{isSleep, isInitialization, isNormal, boff, lbkm, silm}
+use Rattle.model.specs.Control.{isSleep, isInitialization, isNormal, epvf, boff, lbkm, silm}
 use Rattle.model.specs.Reception.{malformed}
 use Rattle.model.specs.Registers.{registerAt, isAbsent, isFree, hasRequest, writeRefusal}
 use Rattle.model.specs.Codes.{isOutput}
@@ -162,18 +162,33 @@ of-reception true false true true finit h = (refl, refl)
 of-reception true false true false true h = (refl, refl)
 of-reception true false true false false h = absurd (true≢false h)
 
-abbrev outcomeReason : Bool → Bool → ℕ
-outcomeReason over free = pick over 10 (pick (not free) 23 22)
+abbrev outcomeReason : Bool → Bool → Bool → ℕ
+outcomeReason over free loopback = pick over 10 (pick (not (not free)) 22 (pick loopback 23 26))
 
-of-outcome : (over free unacknowledged loopback : Bool)
-    → eqb (pick over 5 (pick (not free && not (unacknowledged && loopback)) 0 4)) 0 ≡ false
-    → (getD codesOf (outcomeReason over free) 0 ≡ pick over 5 (pick (not free && not (unacknowledged && loopback)) 0 4))
-    × ((eqb (outcomeReason over free) 10 && over) || (eqb (outcomeReason over free) 22 && free) || (eqb (outcomeReason over free) 23 && unacknowledged && loopback) ≡ true)
-of-outcome true free unacknowledged loopback h = (refl, refl)
-of-outcome false true unacknowledged loopback h = (refl, refl)
-of-outcome false false true true h = (refl, refl)
-of-outcome false false true false h = absurd (true≢false h)
-of-outcome false false false loopback h = absurd (true≢false h)
+-- three: the result is 3; eight: it is 8
+abbrev outcomeCode : Bool → Bool → Bool → Bool → Bool → Bool → ℕ
+outcomeCode over free three eight loopback passive =
+    pick over 5 (pick (not free && not ((three || eight) && loopback) && not (eight && not passive)) 0 4)
+
+abbrev outcomeSays : Bool → Bool → Bool → Bool → Bool → Bool → ℕ → Bool
+outcomeSays over free three eight loopback passive n =
+    (eqb n 10 && over) || (eqb n 22 && free) || (eqb n 23 && (three || eight) && loopback) || (eqb n 26 && eight && not passive)
+
+of-outcome : (over free three eight loopback passive : Bool)
+    → eqb (outcomeCode over free three eight loopback passive) 0 ≡ false
+    → (getD codesOf (outcomeReason over free loopback) 0 ≡ outcomeCode over free three eight loopback passive)
+    × (outcomeSays over free three eight loopback passive (outcomeReason over free loopback) ≡ true)
+of-outcome true free three eight loopback passive h = (refl, refl)
+of-outcome false true three eight loopback passive h = (refl, refl)
+of-outcome false false true eight true passive h = (refl, refl)
+of-outcome false false false true true passive h = (refl, refl)
+of-outcome false false false false true passive h = absurd (true≢false h)
+of-outcome false false true true false false h = (refl, refl)
+of-outcome false false true true false true h = absurd (true≢false h)
+of-outcome false false true false false passive h = absurd (true≢false h)
+of-outcome false false false true false false h = (refl, refl)
+of-outcome false false false true false true h = absurd (true≢false h)
+of-outcome false false false false false passive h = absurd (true≢false h)
 
 -- behind the tests of an event's own fields come those of the bus: k is the code there, n the reason, b what it says
 abbrev frameSays : Bool → Bool → Bool → Bool → ℕ → Bool
@@ -228,7 +243,7 @@ fits c (BitTimes n) h = needed 5 (leb 1 n && leb n 65535) h
 fits c Activity h = needed 4 (isSleep (c .control .mode)) h
 fits c Start h =
     of-start (isNormal (c .control .mode)) (boff (c .errors)) (isFree c) (isEmpty (c .transmit .queue .order)) (silm (c .control)) (lbkm (c .control)) h
-fits c (Outcome r) h = of-outcome (ltb 7 r) (isFree c) (eqb r 3) (lbkm (c .control)) h
+fits c (Outcome r) h = of-outcome (ltb 8 r) (isFree c) (eqb r 3) (eqb r 8) (lbkm (c .control)) (epvf (c .errors)) h
 fits c (Receive x) h =
     of-frame (bit 0 (x .identifier)) (bit 2 (x .identifier)) (eqb (bits 3 18 (x .identifier)) 0) (ltb 15 (x .length))
     (pick (mayReceive c) 0 4)

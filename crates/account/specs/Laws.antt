@@ -9,7 +9,7 @@ use lib.Dec.{eqb, ltb, leb}
 use lib.ListN.{length, getD}
 use Rattle.base.specs.Base.{pick, bit, bits}
 use Rattle.model.specs.Queue.{isEmpty}
-use Rattle.model.specs.Control.{isSleep, isNormal, boff, lbkm, silm}
+use Rattle.model.specs.Control.{isSleep, isNormal, epvf, boff, lbkm, silm}
 use Rattle.model.specs.Registers.{registerAt, isAbsent, isFree, writeRefusal}
 use Rattle.model.specs.Codes.{isOutput}
 use Rattle.model.specs.Codes as codes
@@ -46,10 +46,10 @@ pub record Placed (g : Register) : Type 0 where
 abbrev pub reasonOf : Core → steps.Step → ℕ
 reasonOf c e = ofStep (busOf c) e (placeOf (registerAt (accesses.offsetOf e)) .kind)
 
--- the codes of the reasons 0 to 25
+-- the codes of the reasons 0 to 26
 abbrev pub codesOf : List ℕ
 codesOf =
-    1 ∷ 1 ∷ 3 ∷ 2 ∷ 2 ∷ 2 ∷ 2 ∷ 2 ∷ 2 ∷ 5 ∷ 5 ∷ 5 ∷ 5 ∷ 5 ∷ 5 ∷ 5 ∷ 4 ∷ 4 ∷ 4 ∷ 4 ∷ 4 ∷ 4 ∷ 4 ∷ 4 ∷ 4 ∷ 4 ∷ []
+    1 ∷ 1 ∷ 3 ∷ 2 ∷ 2 ∷ 2 ∷ 2 ∷ 2 ∷ 2 ∷ 5 ∷ 5 ∷ 5 ∷ 5 ∷ 5 ∷ 5 ∷ 5 ∷ 4 ∷ 4 ∷ 4 ∷ 4 ∷ 4 ∷ 4 ∷ 4 ∷ 4 ∷ 4 ∷ 4 ∷ 4 ∷ []
 
 -- 16 an own frame is on the wire, 18 not in Normal mode, 19 bus-off
 abbrev pub saysOfBus : Core → ℕ → Bool
@@ -71,8 +71,8 @@ abbrev pub saysOfOffset : ℕ → ℕ → Bool
 saysOfOffset o n = (eqb n 0 && not (eqb (o % 4) 0)) || (eqb n 1 && isAbsent (registerAt o))
 
 -- what reason n says of a step and of the state before it; 2 a receive mailbox word, 3 to 8 a locked register, 9 no bit times,
--- 10 the result is over 7, 14 the error code isn't 1 to 6, 15 REC goes up by neither 1 nor 8, 17 not in Sleep, 20 no request,
--- 21 silent, 22 no own frame, 23 no acknowledgment in loopback
+-- 10 the result is over 8, 14 the error code isn't 1 to 6, 15 REC goes up by neither 1 nor 8, 17 not in Sleep, 20 no request,
+-- 21 silent, 22 no own frame, 23 no acknowledgment in loopback, 26 result 8 while error active
 unfoldable pub says : Core → steps.Step → ℕ → Bool
 says c Reset n = false
 says c (Read o) n = saysOfOffset o n
@@ -85,7 +85,11 @@ says c Start n =
     saysOfBus c n
     || (eqb n 20 && isEmpty (c .transmit .queue .order))
     || (eqb n 21 && silm (c .control) && not (lbkm (c .control)))
-says c (Outcome r) n = (eqb n 10 && ltb 7 r) || (eqb n 22 && isFree c) || (eqb n 23 && eqb r 3 && lbkm (c .control))
+says c (Outcome r) n =
+    (eqb n 10 && ltb 8 r)
+    || (eqb n 22 && isFree c)
+    || (eqb n 23 && (eqb r 3 || eqb r 8) && lbkm (c .control))
+    || (eqb n 26 && eqb r 8 && not (epvf (c .errors)))
 says c (Receive x) n = saysOfFrame x n || saysOfReception c n
 says c (ReceiveError k m) n =
     (eqb n 14 && not (leb 1 k && leb k 6)) || (eqb n 15 && not (eqb m 1 || eqb m 8)) || saysOfReception c n

@@ -29,13 +29,13 @@ unfoldable pub ofOffset : ℕ → ℕ
 ofOffset o = pick (eqb (o % 4) 0) 1 0
 
 -- what keeps each register from being written, by the number of its name: 3 BTR needs Initialization, 4 the mailbox isn't empty,
--- 2 a receive mailbox is read only, 8 the bank is active and FINIT=0, 5 to 7 FM1R, FS1R, FFA1R need FINIT=1; 26 nothing
+-- 2 a receive mailbox is read only, 8 the bank is active and FINIT=0, 5 to 7 FM1R, FS1R, FFA1R need FINIT=1; 27 nothing
 abbrev pub keeps : List ℕ
 keeps =
-    26 ∷ 26 ∷ 26 ∷ 26 ∷ 26 ∷ 26 ∷ 3 ∷ 4 ∷ 4 ∷ 4 ∷ 4 ∷ 2 ∷ 2 ∷ 2 ∷ 2 ∷ 26 ∷ 8 ∷ 8 ∷ 26 ∷ 5 ∷ 6 ∷ 7 ∷ 26 ∷ []
+    27 ∷ 27 ∷ 27 ∷ 27 ∷ 27 ∷ 27 ∷ 3 ∷ 4 ∷ 4 ∷ 4 ∷ 4 ∷ 2 ∷ 2 ∷ 2 ∷ 2 ∷ 27 ∷ 8 ∷ 8 ∷ 27 ∷ 5 ∷ 6 ∷ 7 ∷ 27 ∷ []
 
 unfoldable pub ofWrite : ℕ → ℕ → ℕ
-ofWrite k o = pick (eqb k 18) (ofOffset o) (pick (leb 23 k) 26 (getD keeps k 0))
+ofWrite k o = pick (eqb k 18) (ofOffset o) (pick (leb 23 k) 27 (getD keeps k 0))
 
 -- not in Normal mode, bus-off, an own frame on the wire, or the given reason
 unfoldable pub ofBus : Bus → ℕ → ℕ
@@ -49,9 +49,9 @@ ofStart b = ofBus b (pick (b .empty) 20 21)
 unfoldable pub ofReception : Bus → ℕ
 ofReception b = ofBus b (pick (b .loopback) 24 25)
 
--- the result is over 7; no acknowledgment in loopback; no frame on the wire
-unfoldable pub ofOutcome : Bool → ℕ → ℕ
-ofOutcome own r = pick (ltb 7 r) 10 (pick own 23 22)
+-- the result is over 8; no frame on the wire; no acknowledgment in loopback; 8 while error active (02, Q-4)
+unfoldable pub ofOutcome : Bus → ℕ → ℕ
+ofOutcome b r = pick (ltb 8 r) 10 (pick (not (b .own)) 22 (pick (b .loopback) 23 26))
 
 -- bit 0 of the identifier word, length code over 15, standard with extended bits
 unfoldable pub ofFrame : Bus → Frame → ℕ
@@ -66,13 +66,13 @@ ofError b k n = pick (eqb n 1 || eqb n 8) (pick (leb 1 k && leb k 6) (ofReceptio
 
 -- k is the number of the name of the register that the step reads or writes
 unfoldable pub ofStep : Bus → steps.Step → ℕ → ℕ
-ofStep b Reset k = 26
+ofStep b Reset k = 27
 ofStep b (Read o) k = ofOffset o
 ofStep b (Write o w) k = ofWrite k o
 ofStep b Idle k = 16
 ofStep b (BitTimes n) k = 9
 ofStep b Activity k = 17
 ofStep b Start k = ofStart b
-ofStep b (Outcome r) k = ofOutcome (b .own) r
+ofStep b (Outcome r) k = ofOutcome b r
 ofStep b (Receive x) k = ofFrame b x
 ofStep b (ReceiveError c n) k = ofError b c n

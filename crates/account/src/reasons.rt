@@ -45,7 +45,9 @@ const LOOPBACK: u32 = 24;
 
 const FILTER_INITIALIZATION: u32 = 25;
 
-const NOTHING: u32 = 26;
+const ERROR_ACTIVE: u32 = 26;
+
+const NOTHING: u32 = 27;
 
 // What can keep an event off the bus: not in Normal mode, bus-off, an own frame on the wire, no request, loopback.
 pub struct Bus {
@@ -81,12 +83,12 @@ fn of_write(kind: u32, o: u16) -> u32
         return bits::pick_u32(o % 4 == 0, NO_REGISTER, MISALIGNED);
     }
     let keeps = [
-        26,
-        26,
-        26,
-        26,
-        26,
-        26,
+        27,
+        27,
+        27,
+        27,
+        27,
+        27,
         3,
         4,
         4,
@@ -96,14 +98,14 @@ fn of_write(kind: u32, o: u16) -> u32
         2,
         2,
         2,
-        26,
+        27,
         8,
         8,
-        26,
+        27,
         5,
         6,
         7,
-        26,
+        27,
     ];
     let i = kind as usize;
     if 23 <= i {
@@ -134,13 +136,16 @@ fn of_reception(b: Bus) -> u32
     )
 }
 
-fn of_outcome(own: bool, r: u8) -> u32
-    ensures { λ a. ⌜ a ≡ reasons.ofOutcome own r ⌝ }
+fn of_outcome(b: Bus, r: u8) -> u32
+    ensures { λ a. ⌜ a ≡ reasons.ofOutcome b r ⌝ }
 {
-    if 7 < r {
+    if 8 < r {
         return RESULT;
     }
-    bits::pick_u32(own, ACKNOWLEDGED, NO_OWN_FRAME)
+    if !b.own {
+        return NO_OWN_FRAME;
+    }
+    bits::pick_u32(b.loopback, ACKNOWLEDGED, ERROR_ACTIVE)
 }
 
 fn of_frame(b: Bus, x: Frame) -> u32
@@ -179,7 +184,7 @@ pub fn of_step(b: Bus, e: Step, g: Place) -> u32
         Step::BitTimes(_) => NO_BIT_TIMES,
         Step::Activity => NOT_ASLEEP,
         Step::Start => of_bus(b, bits::pick_u32(b.empty, NONE_PENDING, SILENT)),
-        Step::Outcome(r) => of_outcome(b.own, r),
+        Step::Outcome(r) => of_outcome(b, r),
         Step::Receive(x) => of_frame(b, x),
         Step::ReceiveError(k, n) => of_error(b, k, n),
     }

@@ -106,7 +106,7 @@ pub fn start(c: &mut Controller) -> Answer
     step(c, Step::Start)
 }
 
-// The end of the frame on the wire: 0 good, 1 to 6 an error code, 7 arbitration lost.
+// The end of the frame on the wire: 0 good, 1 to 6 an error code, 7 arbitration lost, 8 no acknowledgment while error passive.
 pub fn outcome(c: &mut Controller, result: u8) -> Answer
     ensures { λ r. ⌜ lent.Taken (now (c .entry)) (steps.Outcome result) r (now (c .exit)) ⌝ }
 {

@@ -107,7 +107,7 @@ module _ (board : ℕ) (b : List ℕ) (r : ℕ) (d : List ℕ) where
 
   pub result-narrowed : (n : ℕ) → Gives board b (Outcome (narrow.byte n)) r d → Gives board b (Outcome n) r d
   unfolding narrow.byte
-  result-narrowed n g = by-width n 255 (λ n. Gives board b (Outcome n) r d) 255 g (λ h. out-of-range board b (Outcome 255) (Outcome n) r d refl (lt-ltb 7 n (omega arith)))
+  result-narrowed n g = by-width n 255 (λ n. Gives board b (Outcome n) r d) 255 g (λ h. out-of-range board b (Outcome 255) (Outcome n) r d refl (lt-ltb 8 n (omega arith)))
 
   pub frame-narrowed : (i l h n : ℕ) → Gives board b (Receive (record { identifier = i; low = l; high = h; length = narrow.byte n })) r d
       → Gives board b (Receive (record { identifier = i; low = l; high = h; length = n })) r d

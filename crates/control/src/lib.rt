@@ -126,7 +126,7 @@ fn is_warning(tec: u16, rec: u8) -> bool
     (96 <= tec) | (96 <= rec)
 }
 
-fn is_passive(tec: u16, rec: u8) -> bool
+pub fn is_passive(tec: u16, rec: u8) -> bool
     ensures { λ r. ⌜ r ≡ ltb 127 tec || ltb 127 rec ⌝ }
 {
     (127 < tec) | (127 < rec)
@@ -466,6 +466,13 @@ pub fn outcome_errors(e: Errors, r: u8) -> Errors
             tec: e.tec,
             rec: e.rec,
             lec: e.lec,
+        };
+    }
+    if r == 8 {
+        return Errors {
+            tec: e.tec,
+            rec: e.rec,
+            lec: 3,
         };
     }
     Errors {

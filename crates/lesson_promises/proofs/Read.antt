@@ -23,6 +23,7 @@ lines-read = record {
   start = refl;
   good = refl;
   lost = refl;
+  alone = refl;
   result = refl;
   error = refl;
   number = refl;

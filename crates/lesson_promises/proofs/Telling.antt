@@ -33,6 +33,7 @@ steps = record {
   bit0 = refl;
   crc = refl;
   lost = refl;
+  alone = refl;
   unknown = refl;
   large = refl;
   error = refl;

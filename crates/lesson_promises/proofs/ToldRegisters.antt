@@ -44,19 +44,19 @@ size′ k = getD sizes k 0
 abbrev count′ : ℕ → ℕ
 count′ k = getD counts k 0
 
-all-known : (c : Column) (l : List ℕ) → Is (allBelow (λ (k : ℕ). eqb (number (k + 29) c) (getD l k 0)) 23)
-    → (k : ℕ) → k < 23 → number (k + 29) c ≡ getD l k 0
-all-known c l t k h = eqb-true (number (k + 29) c) (getD l k 0) (each-below (λ (k : ℕ). eqb (number (k + 29) c) (getD l k 0)) 23 t k h)
+all-known : (c : Column) (l : List ℕ) → Is (allBelow (λ (k : ℕ). eqb (number (k + 30) c) (getD l k 0)) 23)
+    → (k : ℕ) → k < 23 → number (k + 30) c ≡ getD l k 0
+all-known c l t k h = eqb-true (number (k + 30) c) (getD l k 0) (each-below (λ (k : ℕ). eqb (number (k + 30) c) (getD l k 0)) 23 t k h)
 
-known-place : (k : ℕ) → k < 23 → number (k + 29) Place ≡ place′ k
+known-place : (k : ℕ) → k < 23 → number (k + 30) Place ≡ place′ k
 unfolding lookups allBelow
 known-place = all-known Place places refl
 
-known-size : (k : ℕ) → k < 23 → number (k + 29) Size ≡ size′ k
+known-size : (k : ℕ) → k < 23 → number (k + 30) Size ≡ size′ k
 unfolding lookups allBelow
 known-size = all-known Size sizes refl
 
-known-count : (k : ℕ) → k < 23 → number (k + 29) Count ≡ count′ k
+known-count : (k : ℕ) → k < 23 → number (k + 30) Count ≡ count′ k
 unfolding lookups allBelow
 known-count = all-known Count counts refl
 
@@ -74,14 +74,14 @@ unfoldable along : ℕ → ℕ → ℕ → Found
 along o k zero = nowhere
 along o k (suc n) =
     pick (ltb (indexIn (place′ k) (size′ k) (count′ k) o) (count′ k))
-    (record { row = k + 29; index = indexIn (place′ k) (size′ k) (count′ k) o })
+    (record { row = k + 30; index = indexIn (place′ k) (size′ k) (count′ k) o })
     (along o (k + 1) n)
 
-walked : (o k n : ℕ) → k + n ≤ 23 → registerOn o (k + 29) n ≡ along o k n
+walked : (o k n : ℕ) → k + n ≤ 23 → registerOn o (k + 30) n ≡ along o k n
 unfolding registerOn indexAt along number
 walked o k zero h = refl
 walked o k (suc n) h =
-    let e : k + 29 + 1 ≡ k + 1 + 29 = omega arith in
+    let e : k + 30 + 1 ≡ k + 1 + 30 = omega arith in
     rw (known-place k (omega arith), known-size k (omega arith), known-count k (omega arith), e, walked o (k + 1) n (omega arith))
 
 register-along : (o : ℕ) → registerAt o ≡ along o 0 23
@@ -112,8 +112,8 @@ absent-above o l = simp (le-ltb o 0x20 (omega arith), le-ltb o 0x200 (omega arit
 
 -- f is found by the offset o, g by the name of the model's register there, which may be absent
 unfoldable agrees : Bool → Found → Found → ℕ → Bool
-agrees true f g o = eqb (f .row) 163
-agrees false f g o = ltb (f .row) 163 && (eqb (g .row) (f .row) && (eqb (g .index) (f .index) && eqb (place g) o))
+agrees true f g o = eqb (f .row) 164
+agrees false f g o = ltb (f .row) 164 && (eqb (g .row) (f .row) && (eqb (g .index) (f .index) && eqb (place g) o))
 
 abbrev nameAt : ℕ → List ℕ
 nameAt o = registerName (model.registerAt o)
@@ -137,18 +137,18 @@ agreed o = go (ltb o 0x300) refl
     go false e = agreed-above o (ltb-false o 0x300 e)
 
 module _ (f g : Found) (o : ℕ) where
-  none-there : (a : Bool) → Is (agrees a f g o) → a ≡ true → f .row ≡ 163
+  none-there : (a : Bool) → Is (agrees a f g o) → a ≡ true → f .row ≡ 164
   unfolding agrees
-  none-there true t e = eqb-true (f .row) 163 t
+  none-there true t e = eqb-true (f .row) 164 t
   none-there false t e = absurd (false≢true e)
 
-  one-there : (a : Bool) → Is (agrees a f g o) → a ≡ false → (f .row < 163) × ((g .row ≡ f .row) × ((g .index ≡ f .index) × (place g ≡ o)))
+  one-there : (a : Bool) → Is (agrees a f g o) → a ≡ false → (f .row < 164) × ((g .row ≡ f .row) × ((g .index ≡ f .index) × (place g ≡ o)))
   unfolding agrees
   one-there true t e = absurd (true≢false e)
   one-there false t e =
-      let r = and-r (ltb (f .row) 163) (eqb (g .row) (f .row) && (eqb (g .index) (f .index) && eqb (place g) o)) t in
+      let r = and-r (ltb (f .row) 164) (eqb (g .row) (f .row) && (eqb (g .index) (f .index) && eqb (place g) o)) t in
       let i = and-r (eqb (g .row) (f .row)) (eqb (g .index) (f .index) && eqb (place g) o) r in (
-        ltb-true (f .row) 163 (and-l (ltb (f .row) 163) _ t),
+        ltb-true (f .row) 164 (and-l (ltb (f .row) 164) _ t),
         (eqb-true (g .row) (f .row) (and-l (eqb (g .row) (f .row)) _ r), (eqb-true (g .index) (f .index) (and-l (eqb (g .index) (f .index)) _ i), eqb-true (place g) o (and-r (eqb (g .index) (f .index)) _ i))),
       )
 

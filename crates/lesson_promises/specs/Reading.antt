@@ -26,6 +26,7 @@ pub record Lines : Type 0 where
   pub start : meaningOf (bytes "start") ≡ Step Start
   pub good : meaningOf (bytes "end good") ≡ Step (Outcome 0)
   pub lost : meaningOf (bytes "end lost") ≡ Step (Outcome 7)
+  pub alone : meaningOf (bytes "end alone") ≡ Step (Outcome 8)
   pub result : meaningOf (bytes "end 255") ≡ Step (Outcome 255)
   pub error : meaningOf (bytes "error 1 8") ≡ Step (ReceiveError 1 8)
   -- values

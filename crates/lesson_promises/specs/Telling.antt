@@ -38,7 +38,8 @@ pub record Steps : Type 0 where
   pub bit0 : Says (Outcome 5) "end bit0"
   pub crc : Says (Outcome 6) "end crc"
   pub lost : Says (Outcome 7) "end lost"
-  pub unknown : Says (Outcome 8) "end 8"
+  pub alone : Says (Outcome 8) "end alone"
+  pub unknown : Says (Outcome 9) "end 9"
   pub large : Says (Outcome 200) "end 200"
   pub error : Says (ReceiveError 1 8) "error 1 8"
   pub odd : Says (ReceiveError 255 0) "error 255 0"
@@ -52,7 +53,7 @@ pub record Registers : Type 0 where
   pub between : Says (Read 0x182) "read 0x0182"
   pub last : Says (Read 0xFFFF) "read 0xFFFF"
   pub alone : registerText 0x190 ≡ tables.bytes "TI1R"
-  pub noRow : nameText 163 0 ≡ []
+  pub noRow : nameText 164 0 ≡ []
 
 pub record Writes : Type 0 where
   -- the fields where they say all, the number where they don't, or where nothing is set

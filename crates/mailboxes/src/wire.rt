@@ -36,7 +36,7 @@ pub fn over(q: Queue, m: Mailbox, outcome: u8, nart: bool) -> bool
     (outcome == 0) | nart | flag(f, m)
 }
 
-// 0 is good, 7 is arbitration lost, the rest are errors.
+// 0 is good, 7 is arbitration lost, the rest are errors, 8 too.
 fn outcome_flags(x: MailboxState, outcome: u8, done: bool) -> MailboxState
     ensures { λ r. ⌜ r ≡ mailboxes.outcomeFlags x outcome done ⌝ }
 {

@@ -1,5 +1,5 @@
 -- What an accepted step does to TEC, REC, LEC, the recovery count, and to whether Initialization was entered since bus-off.
-use mathlib.Core.Bool.{Bool, true, false, not, _&&_, true≢false, and-comm, and-true, and-false, or-false}
+use mathlib.Core.Bool.{Bool, true, false, not, _&&_, _||_, true≢false, and-comm, and-true, and-false, or-false}
 use mathlib.Core.Path.{_≡_, refl, sym, ap, _∙_}
 use mathlib.Core.List.{List}
 use Prim.Native.Nat.{ℕ, _+_, _-_, _/_, _%_, _^_, _≤_, _<_}
@@ -197,17 +197,19 @@ changed : (c : Core) (d : Errors) → Not (boff (c .errors))
     (countersBecome (countsOf c) (d .tec) (d .rec) (d .lec))
 changed c d h = rw h
 
-outcome-errors : (a b : Bool) (e : Errors) (r : ℕ) → eqb r 0 ≡ a → eqb r 7 ≡ b → e .tec ≤ 263
-    → outcomeErrors e r ≡ record { tec = pick a (e .tec - 1) (pick b (e .tec) (e .tec + 8)); rec = e .rec; lec = pick b (e .lec) r }
+outcome-errors : (a b c : Bool) (e : Errors) (r : ℕ) → eqb r 0 ≡ a → eqb r 7 ≡ b → eqb r 8 ≡ c → e .tec ≤ 263
+    → outcomeErrors e r ≡ record { tec = pick a (e .tec - 1) (pick (b || c) (e .tec) (e .tec + 8)); rec = e .rec; lec = pick b (e .lec) (pick c 3 r) }
 unfolding outcomeErrors
-outcome-errors true true e r p q h = let x : r ≡ 0 = eqb-true _ _ p in let y : r ≡ 7 = eqb-true _ _ q in absurd (omega arith)
-outcome-errors true false e r p q h = rw p (λ j. record { tec = e .tec - 1; rec = e .rec; lec = sym (eqb-true r 0 p) j })
-outcome-errors false true e r p q h = rw (p, q)
-outcome-errors false false e r p q h = rw (p, q) (ap (λ (t : ℕ). record { tec = t; rec = e .rec; lec = r }) (omega arith))
+outcome-errors true true c e r p q s h = let x : r ≡ 0 = eqb-true _ _ p in let y : r ≡ 7 = eqb-true _ _ q in absurd (omega arith)
+outcome-errors true false true e r p q s h = let x : r ≡ 0 = eqb-true _ _ p in let y : r ≡ 8 = eqb-true _ _ s in absurd (omega arith)
+outcome-errors true false false e r p q s h = rw p (λ j. record { tec = e .tec - 1; rec = e .rec; lec = sym (eqb-true r 0 p) j })
+outcome-errors false true c e r p q s h = rw (p, q)
+outcome-errors false false true e r p q s h = rw (p, q, s)
+outcome-errors false false false e r p q s h = rw (p, q, s) (ap (λ (t : ℕ). record { tec = t; rec = e .rec; lec = r }) (omega arith))
 
 wire-taken : (z : Controller) (r : ℕ) → eqb (refusal (z .core) (Outcome r)) 0 ≡ true → Not (isFree (z .core))
 unfolding refusal
-wire-taken z r h = Is-not _ (may-end (z .core) r (end-accepted (ltb 7 r) (mayEnd (z .core) r) h))
+wire-taken z r h = Is-not _ (may-end (z .core) r (end-accepted (ltb 8 r) (mayEnd (z .core) r) h))
 
 end-counts : (v : Sender) (c : Core) (b : List ℕ) (r : ℕ) → Not (isNobody v) → Not (boff (c .errors)) → c .errors .tec ≤ 263
     → Settles c (endedBy v c b r) (endCounted (countsOf c) r)
@@ -216,7 +218,7 @@ end-counts Nobody c b r n f t = absurd (true≢false n)
 end-counts (From m) c b r n f t =
     kept-mode c (endedBy (From m) c b r) (endCounted (countsOf c) r) refl
     (changed c (outcomeErrors (c .errors) r) f
-    ∙ ap (λ (d : Errors). countersBecome (countsOf c) (d .tec) (d .rec) (d .lec)) (outcome-errors (eqb r 0) (eqb r 7) (c .errors) r refl refl t))
+    ∙ ap (λ (d : Errors). countersBecome (countsOf c) (d .tec) (d .rec) (d .lec)) (outcome-errors (eqb r 0) (eqb r 7) (eqb r 8) (c .errors) r refl refl refl t))
 
 -- who hears a frame or an error is not in bus-off
 hears-on : (c : Core) → Is (mayReceive c) → Not (boff (c .errors))

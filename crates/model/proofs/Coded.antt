@@ -19,7 +19,7 @@ use Rattle.model.specs.declared.Register.the-variants.{Mcr, Msr, Tsr, Rf
 use Rattle.model.specs.declared.Step as steps
 use Rattle.model.specs.declared.Step.the-variants.{Reset, Read, Write, Idle, BitTimes, Activity, Start, Outcome, Receive, ReceiveError}
 use Rattle.model.proofs.Mapped.{map}
-use Rattle.model.proofs.ReadFields.{inak-read, slak-read, normal-read, txm-read, free-read, held-read, pending-read, boff-read, lbkm-read, silm-read, finit-read, active-read}
+use Rattle.model.proofs.ReadFields.{inak-read, slak-read, normal-read, txm-read, free-read, held-read, pending-read, epvf-read, boff-read, lbkm-read, silm-read, finit-read, active-read}
 
 -- a code k is the one that these five conditions say
 record Said (k : ℕ) (unmapped output locked range impossible : Bool) : Type 0 where
@@ -78,14 +78,17 @@ module _ (z : Controller) where
   unfolding mayReceive
   can-receive = λ i. normal-read z i && not (boff-read z i) && free-read z i && not (lbkm-read z i) && not (finit-read z i)
 
-  cannot-end : (r : ℕ) → (not (txm z) || (eqb r 3 && lbkm z)) ≡ not (mayEnd (z .core) r)
+  cannot-end : (r : ℕ) → cannotBe (Outcome r) z ≡ not (mayEnd (z .core) r)
   unfolding mayEnd
-  cannot-end r = (λ i. free-read z i || (eqb r 3 && lbkm-read z i)) ∙ either (isFree (z .core)) (eqb r 3 && control.lbkm (z .core .control))
+  cannot-end r =
+      (λ i. free-read z i || ((eqb r 3 || eqb r 8) && lbkm-read z i) || (eqb r 8 && not (epvf-read z i)))
+      ∙ either (isFree (z .core)) ((eqb r 3 || eqb r 8) && control.lbkm (z .core .control)) (eqb r 8 && not (control.epvf (z .core .errors)))
     where
-      either : (a b : Bool) → (a || b) ≡ not (not a && not b)
-      either true b = refl
-      either false true = refl
-      either false false = refl
+      either : (a b c : Bool) → (a || b || c) ≡ not (not a && not b && not c)
+      either true b c = refl
+      either false true c = refl
+      either false false true = refl
+      either false false false = refl
 
   -- a bank's value while FINIT=0 and the bank is active
   by-bank : (b : Bank) → Said (pick (not (z .core .filters .finit) && bit (b .0) (z .core .filters .activation)) 2 0) false false (isLocked (R1 b) z) false false
@@ -126,7 +129,7 @@ module _ (z : Controller) where
   said (BitTimes n) = ticks-range (leb 1 n && leb n 65535)
   said Activity = by-state (isSleep (z .core .control .mode)) (cannotBe Activity z) (ap not (slak-read z))
   said Start = by-state (mayStart (z .core)) (cannotBe Start z) (ap not can-start)
-  said (Outcome r) = by-range (ltb 7 r) (mayEnd (z .core) r) (cannotBe (Outcome r) z) (cannot-end r)
+  said (Outcome r) = by-range (ltb 8 r) (mayEnd (z .core) r) (cannotBe (Outcome r) z) (cannot-end r)
   said (Receive x) = by-range (malformed x) (mayReceive (z .core)) (cannotBe (Receive x) z) (ap not can-receive)
   said (ReceiveError k n) = in-range (receiveErrorInRange k n) (mayReceive (z .core)) (cannotBe (ReceiveError k n) z) (ap not can-receive)
 

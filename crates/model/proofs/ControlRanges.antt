@@ -4,7 +4,7 @@ use mathlib.Core.Path.{_≡_, refl, sym, _∙_}
 use Prim.Native.Nat.{ℕ, _+_, _-_, _%_, _^_, _<_, _≤_}
 use native.Mathlib.Omega.{arith}
 use lib.Dec.{eqb, ltb, leb}
-use borrow.Author.Tests.{ltb-false, leb-false, not-true}
+use borrow.Author.Tests.{eqb-false, ltb-false, leb-false, not-true}
 use Rattle.base.specs.Base.{pick, bit, bits}
 use Rattle.model.specs.Control.{inrq, sleep, ttcm, awum, isSleep, isInitialization, isNormal, boff, modeNext, entered, settled, masterReset, mcrMasked, mcrWritten, msrWritten, ierWritten, btrWritten, esrWritten, idleCounts, recovers, counted, idleMode, idled, idleErrors, ticked, woken, outcomeErrors, receivedErrors, recPlus, receiveErrorCounters, errorsChanged}
 use Rattle.model.specs.Reachable.{ControlRange, ErrorRange, RecoveryRange}
@@ -167,13 +167,14 @@ module _ (e : Errors) (r : ErrorRange e) where
   }
 
   -- a frame that was on the wire: not in bus-off
-  pub outcome-errors-range : (n : ℕ) → n ≤ 7 → boff e ≡ false → ErrorRange (outcomeErrors e n)
+  pub outcome-errors-range : (n : ℕ) → n ≤ 8 → boff e ≡ false → ErrorRange (outcomeErrors e n)
   unfolding outcomeErrors
   outcome-errors-range n l on =
       let t : e .tec ≤ 255 = ltb-false _ _ on in
       pick-cases ErrorRange (eqb n 0) _ _ (λ _. record { tec = omega arith; rec = r .rec; lec = omega arith })
       (λ _. pick-cases ErrorRange (eqb n 7) _ _ (λ _. r)
-      (λ _. record { tec = omega arith; rec = r .rec; lec = l }))
+      (λ _. pick-cases ErrorRange (eqb n 8) _ _ (λ _. record { tec = omega arith; rec = r .rec; lec = omega arith })
+      (λ d. record { tec = omega arith; rec = r .rec; lec = omega (arith, eqb-false n 8 d) })))
 
   pub received-errors-range : ErrorRange (receivedErrors e)
   unfolding receivedErrors

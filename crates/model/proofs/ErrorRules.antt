@@ -1,5 +1,5 @@
 -- The error flags, ERRI, REC and LEC after each step.
-use mathlib.Core.Bool.{Bool, true, false, not, _&&_, _||_, true≢false, and-false, or-false}
+use mathlib.Core.Bool.{Bool, true, false, not, _&&_, _||_, Bool·beq, true≢false, and-false, or-false}
 use mathlib.Core.Path.{_≡_, refl, sym, ap, _∙_}
 use mathlib.Core.List.{List}
 use Prim.Native.Nat.{ℕ, _+_, _-_, _≤_, _<_, min}
@@ -10,9 +10,9 @@ use Rattle.base.specs.Base.{pick, bit, bits}
 use Rattle.model.specs.Queue.{isNobody}
 use Rattle.model.specs.Control.{ewgf, epvf, boff, idleErrors, recovers, idleCounts, idled, counted, entered, ticked, woken, outcomeErrors, receivedErrors, recPlus, receiveErrorCounters, errorsChanged, controlReset, esrWritten}
 use Rattle.model.specs.Registers.{registerAt, reset, written, isFree}
-use Rattle.model.specs.Step.{refusal, applied, settled, startedBy, endedBy, mayEnd, receiveErrorInRange}
+use Rattle.model.specs.Step.{refusal, applied, settled, startedBy, endedBy, receiveErrorInRange}
 use Rattle.model.specs.Reachable.{InRange, StepRange}
-use Rattle.model.specs.Shown.{msr, Done, nextOf}
+use Rattle.model.specs.Shown.{msr, Done, nextOf, isErrorResult, resultCode}
 use Rattle.model.specs.ErrorFlags.{recAfter, lecAfter, putsCode, rises, clearsErri, ErrorStatus, ErrorChange, ErrorFlags}
 use Rattle.model.specs.Shown as read
 use Rattle.model.specs.declared.Sender.{Sender}
@@ -23,12 +23,14 @@ use Rattle.model.specs.declared.Core.{Core}
 use Rattle.model.specs.declared.Controller.{Controller}
 use Rattle.model.specs.declared.Step as steps
 use Rattle.model.specs.declared.Step.the-variants.{Reset, Read, Write, Idle, BitTimes, Activity, Start, Outcome, Receive, ReceiveError}
-use Rattle.base.proofs.Choices.{pick-cases, or-l, or-r, and-l, and-r, refused-if, refused-unless}
+use Rattle.base.proofs.Choices.{pick-cases, or-l, or-r, and-l, and-r, refused-if, refused-unless, beq-eq}
+use Rattle.model.proofs.Bounded.{allBelow, each-below}
+use Rattle.model.proofs.Follows.{may-end}
 use Rattle.model.proofs.Reached.{step-in-range}
-use Rattle.model.proofs.ShownWords.{msr-shown, ier-shown, esr-shown, msr-erri, esr-ewgf, esr-epvf, esr-lec, esr-tec, esr-rec}
+use Rattle.model.proofs.ShownWords.{msr-shown, ier-shown, esr-shown, msr-erri, esr-ewgf, esr-lec, esr-tec, esr-rec}
 use Rattle.model.proofs.WriteTargets.{control-written, errors-written, flags-written}
 use Rattle.model.proofs.DoneSteps.{accepted, done-core, rule-left}
-use Rattle.model.proofs.ReadFields.{boff-read}
+use Rattle.model.proofs.ReadFields.{epvf-read, boff-read}
 
 -- ---- what ESR shows
 
@@ -41,9 +43,6 @@ shown-lec z i = rw (esr-shown z) (esr-lec (z .core .errors) (i .core .errors .le
 shown-ewgf : (z : Controller) → read.ewgf z ≡ ewgf (z .core .errors)
 shown-ewgf z = rw (esr-shown z) (esr-ewgf (z .core .errors))
 
-shown-epvf : (z : Controller) → read.epvf z ≡ epvf (z .core .errors)
-shown-epvf z = rw (esr-shown z) (esr-epvf (z .core .errors))
-
 shown-erri : (z : Controller) → bit 2 (msr z) ≡ z .core .control .erri
 shown-erri z = rw (msr-shown z) (msr-erri (z .core .control) (isFree (z .core)))
 
@@ -51,25 +50,25 @@ error-status : (z : Controller) → InRange z → ErrorStatus z
 error-status z i = record {
   tecField = rw (esr-shown z) (esr-tec (z .core .errors) (i .core .errors .lec));
   warning = rw (shown-rec z i) (shown-ewgf z);
-  passive = rw (shown-rec z i) (shown-epvf z);
+  passive = rw (shown-rec z i) (epvf-read z);
   busOff = boff-read z;
 }
 
 -- ---- REC and LEC
 
-start-errors : (v : Sender) (c : Core) → startedBy v c .errors ≡ c .errors
+pub start-errors : (v : Sender) (c : Core) → startedBy v c .errors ≡ c .errors
 unfolding startedBy
 start-errors Nobody c = refl
 start-errors (From m) c = refl
 
 -- an accepted own end has a frame on the wire
-end-sender : (c : Core) (r : ℕ) → eqb (refusal c (Outcome r)) 0 ≡ true → (isFree c ≡ false) × (r ≤ 7)
-unfolding refusal mayEnd
+pub end-sender : (c : Core) (r : ℕ) → eqb (refusal c (Outcome r)) 0 ≡ true → (isFree c ≡ false) × (r ≤ 8)
+unfolding refusal
 end-sender c r h =
-    let k = refused-if (ltb 7 r) 5 _ refl h in
-    (not-true (isFree c) (and-l (not (isFree c)) _ (refused-unless _ 0 4 refl (k .1) .0)), ltb-false _ _ (k .0))
+    let k = refused-if (ltb 8 r) 5 _ refl h in
+    (not-true (isFree c) (may-end c r (refused-unless _ 0 4 refl (k .1) .0)), ltb-false _ _ (k .0))
 
-end-errors : (v : Sender) (c : Core) (b : List ℕ) (r : ℕ) → isNobody v ≡ false → endedBy v c b r .errors ≡ outcomeErrors (c .errors) r
+pub end-errors : (v : Sender) (c : Core) (b : List ℕ) (r : ℕ) → isNobody v ≡ false → endedBy v c b r .errors ≡ outcomeErrors (c .errors) r
 unfolding endedBy
 end-errors Nobody c b r h = absurd (true≢false h)
 end-errors (From m) c b r h = refl
@@ -77,20 +76,21 @@ end-errors (From m) c b r h = refl
 outcome-rec : (e : Errors) (r : ℕ) → outcomeErrors e r .rec ≡ e .rec
 unfolding outcomeErrors
 outcome-rec e r =
-    pick-cases (λ (d : Errors). d .rec ≡ e .rec) (eqb r 0) _ _ (λ _. refl) (λ _. pick-cases (λ (d : Errors). d .rec ≡ e .rec) (eqb r 7) _ _ (λ _. refl) (λ _. refl))
+    pick-cases (λ (d : Errors). d .rec ≡ e .rec) (eqb r 0) _ _ (λ _. refl)
+    (λ _. pick-cases (λ (d : Errors). d .rec ≡ e .rec) (eqb r 7) _ _ (λ _. refl)
+    (λ _. pick-cases (λ (d : Errors). d .rec ≡ e .rec) (eqb r 8) _ _ (λ _. refl) (λ _. refl)))
 
-outcome-lec : (e : Errors) (r : ℕ) → outcomeErrors e r .lec ≡ pick (eqb r 7) (e .lec) r
+outcome-lec : (e : Errors) (r : ℕ) → outcomeErrors e r .lec ≡ pick (eqb r 7) (e .lec) (resultCode r)
 unfolding outcomeErrors
-outcome-lec e r = go (eqb r 0) (eqb r 7) refl refl
+outcome-lec e r = go (eqb r 0) (eqb r 7) (eqb r 8) refl refl refl
   where
-    go : (a b : Bool) → eqb r 0 ≡ a → eqb r 7 ≡ b → outcomeErrors e r .lec ≡ pick b (e .lec) r
-    go true true p q = absurd (different (eqb-true _ _ p) (eqb-true _ _ q))
-      where
-        different : r ≡ 0 → r ≡ 7 → ⊥
-        different x y = omega arith
-    go true false p q = rw p (sym (eqb-true _ _ p))
-    go false true p q = rw (p, q)
-    go false false p q = rw (p, q)
+    go : (a b c : Bool) → eqb r 0 ≡ a → eqb r 7 ≡ b → eqb r 8 ≡ c → outcomeErrors e r .lec ≡ pick b (e .lec) (pick c 3 r)
+    go true true c p q s = let x : r ≡ 0 = eqb-true _ _ p in let y : r ≡ 7 = eqb-true _ _ q in absurd (omega arith)
+    go true false true p q s = let x : r ≡ 0 = eqb-true _ _ p in let y : r ≡ 8 = eqb-true _ _ s in absurd (omega arith)
+    go true false false p q s = rw p (sym (eqb-true _ _ p))
+    go false true c p q s = rw (p, q)
+    go false false true p q s = rw (p, q, s)
+    go false false false p q s = rw (p, q, s)
 
 esr-written-rec : (b : Bool) (e : Errors) (w : ℕ) → pick b (esrWritten e w) e .rec ≡ e .rec
 unfolding esrWritten
@@ -102,7 +102,7 @@ unfolding esrWritten
 esr-written-lec true e w = refl
 esr-written-lec false e w = refl
 
-esr-written-tec : (b : Bool) (e : Errors) (w : ℕ) → pick b (esrWritten e w) e .tec ≡ e .tec
+pub esr-written-tec : (b : Bool) (e : Errors) (w : ℕ) → pick b (esrWritten e w) e .tec ≡ e .tec
 unfolding esrWritten
 esr-written-tec true e w = refl
 esr-written-tec false e w = refl
@@ -255,13 +255,9 @@ end-control Nobody c b r h = absurd (true≢false h)
 end-control (From m) c b r h = refl
 
 -- an error code of an own end
-coded-end : (r : ℕ) → r ≤ 7 → (not (eqb r 0) && not (eqb r 7)) ≡ (leb 1 r && leb r 6)
-coded-end r l = go (eqb r 0) (eqb r 7) refl refl
-  where
-    go : (a b : Bool) → eqb r 0 ≡ a → eqb r 7 ≡ b → (not a && not b) ≡ (leb 1 r && leb r 6)
-    go true b p q = let z : r ≡ 0 = eqb-true _ _ p in rw z
-    go false true p q = let z : r ≡ 7 = eqb-true _ _ q in rw z
-    go false false p q = let x : 1 ≤ r = omega (arith, eqb-false r 0 p) in let y : r ≤ 6 = omega (arith, eqb-false r 7 q) in rw (le-leb 1 r x, le-leb r 6 y)
+pub coded-end : (r : ℕ) → r ≤ 8 → (not (eqb r 0) && not (eqb r 7)) ≡ isErrorResult r
+unfolding allBelow
+coded-end r l = beq-eq _ _ (each-below (λ r. Bool·beq (not (eqb r 0) && not (eqb r 7)) (isErrorResult r)) 9 refl r (omega arith))
 
 less-idle : (k : Control) (e : Errors) → (idleErrors k e .tec ≤ e .tec) × (idleErrors k e .rec ≤ e .rec)
 unfolding idleErrors
@@ -321,7 +317,7 @@ settled-errors : (c : Core) → settled c .errors ≡ c .errors
 unfolding settled
 settled-errors c = refl
 
-done-errors : (z : Controller) (s : steps.Step) → Done z s → nextOf z s .core .errors ≡ applied (z .core) (z .banks) s .errors
+pub done-errors : (z : Controller) (s : steps.Step) → Done z s → nextOf z s .core .errors ≡ applied (z .core) (z .banks) s .errors
 done-errors z s h = rw (done-core z s h) (settled-errors _)
 
 error-change : (z : Controller) (s : steps.Step) → InRange z → InRange (nextOf z s) → Done z s → ErrorChange z s (nextOf z s)
@@ -333,7 +329,7 @@ error-change z s i j h =
       received = rw (shown-rec y j, shown-rec z i, boff-read z, boff-read y, d) (applied-rec (z .core) (z .banks) s a);
       last = rw (shown-lec y j, shown-lec z i, d) (applied-lec (z .core) (z .banks) s a);
       warned = warned (read.ewgf z) (read.ewgf y) (read.tec z) (read.rec z) (read.tec y) (read.rec y) (error-status z i .warning) (error-status y j .warning);
-      erri = rw (shown-erri y, shown-erri z, shown-ewgf z, shown-ewgf y, shown-epvf z, shown-epvf y, boff-read z, boff-read y, ier-shown z, d, done-core z s h)
+      erri = rw (shown-erri y, shown-erri z, shown-ewgf z, shown-ewgf y, epvf-read z, epvf-read y, boff-read z, boff-read y, ier-shown z, d, done-core z s h)
           (rule-left (applied (z .core) (z .banks) s) .erri ∙ applied-erri (z .core) (z .banks) s a);
     }
 

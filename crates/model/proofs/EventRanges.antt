@@ -30,7 +30,7 @@ use Rattle.model.specs.declared.MailboxState.{MailboxState}
 use Rattle.model.specs.declared.Acceptance.{Acceptance}
 use Rattle.model.specs.declared.Core.{Core}
 use Rattle.base.proofs.Choices.{pick-cases, and-l, and-r}
-use Rattle.model.proofs.Follows.{first-carried}
+use Rattle.model.proofs.Follows.{first-carried, may-end}
 use Rattle.model.proofs.ReceiveErrors.{receive-error-code, receive-error-step}
 use Rattle.model.proofs.ControlRanges.{settled-range, settled-recovery-range, idled-range, idled-recovery-range, idle-errors-range, ticked-range, woken-range, errors-changed-range, errors-changed-recovery-range, outcome-errors-range, received-errors-range, receive-error-counters-range}
 use Rattle.model.proofs.MailboxRanges.{started-range, ended-range}
@@ -199,7 +199,7 @@ module _ (c : Core) (r : CoreRange c) where
       stored-range (sentFrame x) (fmiOf a) (x .tdt / 65536) (sent-range x k) (k .tdl) (k .tdh) (omega arith) f (omega arith)
 
   end-by : (s : Sender) (v : List ℕ) (n : ℕ) → c .transmit .queue .transmitting ≡ s → ((w : ℕ) → fmiOf (acceptance bankCount (c .filters) v w) .0 < 4 * bankCount)
-      → n ≤ 7 → isFree c ≡ false → CoreRange (endedBy s c v n)
+      → n ≤ 8 → isFree c ≡ false → CoreRange (endedBy s c v n)
   unfolding endedBy storedBy
   end-by Nobody v n e small l busy = r
   end-by (From m) v n e small l busy =
@@ -218,7 +218,6 @@ module _ (c : Core) (r : CoreRange c) where
       (errors-changed-recovery-range (c .control) (c .errors) (r .recovery) d coded (r .wire .normal busy) (r .wire .on busy))
       (free-wire-range _ (ended-free (c .transmit) m n (nart (c .control))))
 
-  pub end-range : (v : List ℕ) (n : ℕ) → ((w : ℕ) → fmiOf (acceptance bankCount (c .filters) v w) .0 < 4 * bankCount) → ltb 7 n ≡ false → mayEnd c n ≡ true
+  pub end-range : (v : List ℕ) (n : ℕ) → ((w : ℕ) → fmiOf (acceptance bankCount (c .filters) v w) .0 < 4 * bankCount) → ltb 8 n ≡ false → mayEnd c n ≡ true
       → CoreRange (endedBy (c .transmit .queue .transmitting) c v n)
-  unfolding mayEnd
-  end-range v n small l may = end-by _ v n refl small (ltb-false _ _ l) (not-true (isFree c) (and-l (not (isFree c)) (not (eqb n 3 && lbkm (c .control))) may))
+  end-range v n small l may = end-by _ v n refl small (ltb-false _ _ l) (not-true (isFree c) (may-end c n may))

@@ -1,5 +1,5 @@
 -- Each step of the controller does to its requests what the event that the observer sees of it says.
-use mathlib.Core.Bool.{Bool, true, false, not, _&&_, true≢false, false≢true}
+use mathlib.Core.Bool.{Bool, true, false, not, _&&_, _||_, true≢false, false≢true}
 use mathlib.Core.List.{List}
 use mathlib.Core.Path.{_≡_, refl, sym, ap, _∙_}
 use Prim.Native.Nat.{ℕ, _-_, _/_, _%_, _^_}
@@ -9,7 +9,7 @@ use borrow.Author.Tests.{eqb-true}
 use Rattle.base.specs.Base.{pick, bit}
 use Rattle.model.specs.Queue.{number, numbered, senderNumber, same, holds, oldest, isFrom, isNobody, isEmpty, requested}
 use Rattle.model.specs.Mailboxes.{firstInWireOrder, sooner, before, first, firstOf, identifiers, requestedBy, tsrWritten, started, ended, over}
-use Rattle.model.specs.Control.{nart, txfp, awum, silm, lbkm, isNormal, boff, mcrMasked, sleepCleared, entered, counted, idled, ticked, woken, errorsChanged, controlReset, masterReset, mcrWritten, msrWritten, ierWritten, btrWritten}
+use Rattle.model.specs.Control.{nart, txfp, awum, silm, lbkm, isNormal, epvf, boff, mcrMasked, sleepCleared, entered, counted, idled, ticked, woken, errorsChanged, controlReset, masterReset, mcrWritten, msrWritten, ierWritten, btrWritten}
 use Rattle.model.specs.Control as control
 use Rattle.model.specs.Registers.{registerAt, reset, coreReset, written, writeRefusal, isFree, hasRequest, withControl, withTransmit}
 use Rattle.model.specs.Step.{step, answered, coreAfter, refusal, wordOf, applied, settled, storedBy, startedBy, endedBy, mayStart, mayEnd}
@@ -259,7 +259,10 @@ end-accepted false b h = start-accepted b h
 
 pub may-end : (c : Core) (r : ℕ) → Is (mayEnd c r) → Is (not (isFree c))
 unfolding mayEnd
-may-end c r h = and-l (not (isFree c)) (not (eqb r 3 && lbkm (c .control))) h
+may-end c r h =
+    let a : Bool = not (isFree c) in
+    let b : Bool = not ((eqb r 3 || eqb r 8) && lbkm (c .control)) in
+    and-l a b (and-l (a && b) (not (eqb r 8 && not (epvf (c .errors)))) h)
 
 applied-does : (c : Core) (b : List ℕ) (s : steps.Step) → eqb (refusal c s) 0 ≡ true → Does c (applied c b s) (stepEvent s (startWord s (wordOf c b s)))
 unfolding applied refusal wordOf idled entered counted ticked errorsChanged storedBy
@@ -270,7 +273,7 @@ applied-does c b Idle h = still c _ refl
 applied-does c b (BitTimes n) h = still c _ refl
 applied-does c b Activity h = still c _ (woken-view c)
 applied-does c b Start h = start-does (firstOf (txfp (c .control)) (c .transmit)) c refl (startable c (start-accepted (mayStart c) h))
-applied-does c b (Outcome r) h = end-does (c .transmit .queue .transmitting) c b r refl (may-end c r (end-accepted (ltb 7 r) (mayEnd c r) h))
+applied-does c b (Outcome r) h = end-does (c .transmit .queue .transmitting) c b r refl (may-end c r (end-accepted (ltb 8 r) (mayEnd c r) h))
 applied-does c b (Receive x) h = still c _ refl
 applied-does c b (ReceiveError k n) h = still c _ refl
 

@@ -99,7 +99,7 @@ applied-range c v (BitTimes n) r l h = bit-times-range c r n
 applied-range c v Activity r l h = activity-range c r
 applied-range c v Start r l h = start-range c r (refused-unless (mayStart c) 0 4 refl h .0)
 applied-range c v (Outcome n) r l h =
-    let k = refused-if (ltb 7 n) 5 _ refl h in
+    let k = refused-if (ltb 8 n) 5 _ refl h in
     end-range c r v n (fmi-range (c .filters) v) (k .0) (refused-unless (mayEnd c n) 0 4 refl (k .1) .0)
 applied-range c v (Receive x) r l h =
     let k = refused-if (malformed x) 5 _ refl h in

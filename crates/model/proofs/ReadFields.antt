@@ -10,7 +10,7 @@ use Rattle.model.specs.Control as control
 use Rattle.model.specs.Registers.{hasRequest, isFree}
 use Rattle.model.specs.Codes.{anyPending}
 use Rattle.model.specs.Shown as read
-use Rattle.model.specs.Shown.{inak, slak, inNormal, txm, boff, lbkm, silm, finit, fact}
+use Rattle.model.specs.Shown.{inak, slak, inNormal, txm, epvf, boff, lbkm, silm, finit, fact}
 use Rattle.model.specs.declared.Mailbox.{Mailbox}
 use Rattle.model.specs.declared.Mailbox.the-variants.{M0, M1, M2}
 use Rattle.model.specs.declared.RequestOrder.{RequestOrder}
@@ -20,7 +20,7 @@ use Rattle.model.specs.declared.Bank.{Bank}
 use Rattle.model.specs.declared.Controller.{Controller}
 use Rattle.base.proofs.Choices.{beq-eq}
 use Rattle.model.proofs.Orders.{each-order}
-use Rattle.model.proofs.ShownWords.{msr-shown, esr-shown, btr-shown, fmr-shown, fa1r-shown, msr-inak, msr-slak, msr-txm, esr-boff}
+use Rattle.model.proofs.ShownWords.{msr-shown, esr-shown, btr-shown, fmr-shown, fa1r-shown, msr-inak, msr-slak, msr-txm, esr-epvf, esr-boff}
 use Rattle.model.proofs.StatusWord.{flags-shown}
 
 neither : (m : Mode) → (not (isInitialization m) && not (isSleep m)) ≡ isNormal m
@@ -63,6 +63,9 @@ module _ (z : Controller) where
 
   pub pending-read : anyPending z ≡ not (isEmpty (z .core .transmit .queue .order))
   pending-read = (λ i. held-read M0 i || held-read M1 i || held-read M2 i) ∙ held-some (z .core .transmit .queue .order)
+
+  pub epvf-read : epvf z ≡ control.epvf (z .core .errors)
+  epvf-read = ap (λ (w : ℕ). bit 1 w) (esr-shown z) ∙ esr-epvf (z .core .errors)
 
   pub boff-read : boff z ≡ control.boff (z .core .errors)
   boff-read = ap (λ (w : ℕ). bit 2 w) (esr-shown z) ∙ esr-boff (z .core .errors)

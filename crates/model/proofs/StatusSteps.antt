@@ -47,6 +47,7 @@ use Rattle.model.proofs.WordsKept.{put-there, put-field, number-eq}
 use Rattle.model.proofs.Arbitrated.{pending-by, each-of, has-wire, same-self}
 use Rattle.model.proofs.ShownWords.{mcr-shown}
 use Rattle.model.proofs.StatusWord.{flags-shown}
+use Rattle.model.proofs.ErrorRules.{coded-end}
 
 -- ---- lists of numbers, by computed tests
 
@@ -321,9 +322,9 @@ end-range : (a b : Bool) → _≡_ {A = ℕ} (pick a 5 (pick b 0 4)) 0 → a ≡
 end-range true b h = absurd (let n : _≡_ {A = ℕ} 5 0 = h in omega arith)
 end-range false b h = refl
 
-result-range : (z : Controller) (r : ℕ) → step z (Outcome r) .code ≡ 0 → r < 8
+result-range : (z : Controller) (r : ℕ) → step z (Outcome r) .code ≡ 0 → r ≤ 8
 unfolding step answered refusal
-result-range z r h = let l : r ≤ 7 = ltb-false 7 r (end-range (ltb 7 r) (mayEnd (z .core) r) h) in omega arith
+result-range z r h = ltb-false 8 r (end-range (ltb 8 r) (mayEnd (z .core) r) h)
 
 end-core : (z : Controller) (r : ℕ) → step z (Outcome r) .code ≡ 0 → step z (Outcome r) .controller .core ≡ settled (endedBy (z .core .transmit .queue .transmitting) (z .core) (z .banks) r)
 unfolding step answered coreAfter refusal applied
@@ -333,10 +334,6 @@ ended-after : (z : Controller) (m : Mailbox) (r : ℕ) → z .core .transmit .qu
     → afterEnd z r .core .transmit ≡ ended (z .core .transmit) m r (nart (z .core .control))
 unfolding settled endedBy
 ended-after z m r e h = ap (λ (c : Core). c .transmit) (end-core z r h) ∙ ap (λ (v : Sender). endedBy v (z .core) (z .banks) r .transmit) e
-
-is-error : (r : ℕ) → r < 8 → not (eqb r 0) && not (eqb r 7) ≡ leb 1 r && leb r 6
-unfolding allBelow
-is-error r l = beq-eq _ _ (each-below (λ r. Bool·beq (not (eqb r 0) && not (eqb r 7)) (leb 1 r && leb r 6)) 8 refl r l)
 
 -- the flags and the request of the mailbox that ends, b saying whether the request ends
 off-flag : (q : Queue) (m : Mailbox) (b : Bool) → (b ≡ false → flag (q .aborts) m ≡ false) → flag (offWire q m b .aborts) m ≡ false
@@ -374,7 +371,7 @@ own-end z m r i f h =
       rqcp = v .rqcp ∙ ap (λ (x : MailboxState). x .rqcp) p ∙ ap (λ (c : Bool). c || b) none ∙ sym k;
       txok = v .txok ∙ ap (λ (x : MailboxState). x .txok) p;
       alst = v .alst ∙ ap (λ (x : MailboxState). x .alst) p;
-      terr = v .terr ∙ ap (λ (x : MailboxState). x .terr) p ∙ is-error r (result-range z r h);
+      terr = v .terr ∙ ap (λ (x : MailboxState). x .terr) p ∙ coded-end r (result-range z r h);
       abrq = v .abrq ∙ ap (λ (x : Transmit). flag (x .queue .aborts) m) e ∙ off-flag (t .queue) m b (λ o. or-r (eqb r 0 || n) (flag (t .queue .aborts) m) o);
       requests = ap (λ (x : Transmit). orderNumbers (x .queue .order)) e ∙ off-numbers (t .queue) m b (i .core .transmit .queue .once)
           ∙ sym (ap (λ (c : Bool). pick c (except (λ n. eqb n (number m)) (orderNumbers (t .queue .order))) (orderNumbers (t .queue .order))) k);

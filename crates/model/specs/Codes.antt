@@ -8,7 +8,7 @@ use Rattle.base.specs.Base.{bit, bits}
 use Rattle.model.specs.Queue.{number}
 use Rattle.model.specs.Registers.{registerAt, isAbsent, bankCount}
 use Rattle.model.specs.Step.{step, linesOf}
-use Rattle.model.specs.Shown.{fifoNumber, shown, tsr, inak, slak, inNormal, txm, tme, boff, lbkm, silm, finit, fact, Done, nextOf, writes, isRead, isStart}
+use Rattle.model.specs.Shown.{fifoNumber, shown, tsr, inak, slak, inNormal, txm, tme, epvf, boff, lbkm, silm, finit, fact, Done, nextOf, writes, isRead, isStart}
 use Rattle.model.specs.declared.Mailbox.the-variants.{M0, M1, M2}
 use Rattle.model.specs.declared.Controller.{Controller}
 use Rattle.model.specs.declared.Register.{Register}
@@ -163,7 +163,7 @@ isLocked Absent z = false
 abbrev pub writesLocked : steps.Step → Controller → Bool
 writesLocked s z = writes (λ o w. isLocked (registerAt o) z) s
 
--- 5: event field out of range. Bit times 1 to 65535; an own end 0 to 7; a frame whose identifier word has bit 0, a standard one
+-- 5: event field out of range. Bit times 1 to 65535; an own end 0 to 8; a frame whose identifier word has bit 0, a standard one
 -- with extended bits, a length code above 15; a receive error's code 1 to 6 and step 1 or 8
 abbrev pub outOfRange : steps.Step → Bool
 outOfRange Reset = false
@@ -173,7 +173,7 @@ outOfRange Idle = false
 outOfRange (BitTimes n) = not (leb 1 n && leb n 65535)
 outOfRange Activity = false
 outOfRange Start = false
-outOfRange (Outcome r) = ltb 7 r
+outOfRange (Outcome r) = ltb 8 r
 outOfRange (Receive x) = bit 0 (x .identifier) || (not (bit 2 (x .identifier)) && not (eqb (bits 3 18 (x .identifier)) 0)) || ltb 15 (x .length)
 outOfRange (ReceiveError k n) = not (leb 1 k && leb k 6 && (eqb n 1 || eqb n 8))
 
@@ -194,7 +194,7 @@ abbrev pub canReceive : Controller → Bool
 canReceive z = isReady z && not (lbkm z) && not (finit z)
 
 -- 4: event that the state can't have. Idle with an own frame on the wire; activity outside Sleep; an own end with none on the wire,
--- and 3 with LBKM=1
+-- 3 and 8 with LBKM=1, and 8 with EPVF=0 (02, Q-4)
 abbrev pub cannotBe : steps.Step → Controller → Bool
 cannotBe Reset z = false
 cannotBe (Read o) z = false
@@ -203,7 +203,7 @@ cannotBe Idle z = txm z
 cannotBe (BitTimes n) z = false
 cannotBe Activity z = not (slak z)
 cannotBe Start z = not (canStart z)
-cannotBe (Outcome r) z = not (txm z) || (eqb r 3 && lbkm z)
+cannotBe (Outcome r) z = not (txm z) || ((eqb r 3 || eqb r 8) && lbkm z) || (eqb r 8 && not (epvf z))
 cannotBe (Receive x) z = not (canReceive z)
 cannotBe (ReceiveError k n) z = not (canReceive z)
 

@@ -228,13 +228,14 @@ sleepCleared mcr = pick (bit 1 mcr) (mcr - 2) mcr
 unfoldable pub woken : Control → Control
 woken k = withFlags (withWords k (pick (awum k) (sleepCleared (k .mcr)) (k .mcr)) (k .ier) (k .btr) (k .timer)) (k .erri) true (k .slaki)
 
--- own end: good, TEC one less if not 0 and LEC=0; lost, neither; error, TEC plus 8 and LEC its code.
--- TEC is at most 263 in any state that is reached, so that the remainder changes nothing
+-- own end: good, TEC one less if not 0 and LEC=0; lost, neither; error, TEC plus 8 and LEC its code. 02, Q-4: 8 is an error that
+-- leaves TEC, with the code of 3. TEC is at most 263 in any state that is reached, so that the remainder changes nothing
 unfoldable pub outcomeErrors : Errors → ℕ → Errors
 outcomeErrors e r =
     pick (eqb r 0) (record { tec = lessOne (e .tec); rec = e .rec; lec = 0 })
     (pick (eqb r 7) e
-    (record { tec = (e .tec + 8) % 65536; rec = e .rec; lec = r }))
+    (pick (eqb r 8) (record { tec = e .tec; rec = e .rec; lec = 3 })
+    (record { tec = (e .tec + 8) % 65536; rec = e .rec; lec = r })))
 
 -- a frame from the bus: REC above 128 becomes 120, else one less if not 0; LEC=0
 unfoldable pub receivedErrors : Errors → Errors

@@ -5,7 +5,7 @@ use mathlib.Core.Path.{_≡_}
 use Prim.Native.Nat.{ℕ, _+_, _-_, _%_, min}
 use lib.Dec.{eqb, ltb, leb}
 use Rattle.base.specs.Base.{pick, bits}
-use Rattle.model.specs.Shown.{esr, erri, ewgie, epvie, bofie, lecie, ewgf, epvf, boff, lec, rec, tec, Done, nextOf, writesOne, resets}
+use Rattle.model.specs.Shown.{esr, erri, ewgie, epvie, bofie, lecie, ewgf, epvf, boff, lec, rec, tec, Done, nextOf, writesOne, isErrorResult, resultCode, resets}
 use Rattle.model.specs.declared.Controller.{Controller}
 use Rattle.model.specs.declared.Step as steps
 use Rattle.model.specs.declared.Step.the-variants.{Reset, Read, Write, Idle, BitTimes, Activity, Start, Outcome, Receive, ReceiveError}
@@ -35,8 +35,8 @@ recAfter (Outcome r) on n = n
 recAfter (Receive x) on n = pick (leb 129 n) 120 (n - 1)
 recAfter (ReceiveError k t) on n = min (n + t) 255
 
--- LEC, n before the step. An own end: 0 if good, its code, unchanged if arbitration is lost. A frame: 0. A receive error: its code.
--- ESR written with 7 there: 7
+-- LEC, n before the step. An own end: 0 if good, its code (3 for 8), unchanged if arbitration is lost. A frame: 0. A receive error:
+-- its code. ESR written with 7 there: 7
 abbrev pub lecAfter : steps.Step → ℕ → ℕ
 lecAfter Reset n = 0
 lecAfter (Read o) n = n
@@ -45,7 +45,7 @@ lecAfter Idle n = n
 lecAfter (BitTimes t) n = n
 lecAfter Activity n = n
 lecAfter Start n = n
-lecAfter (Outcome r) n = pick (eqb r 7) n r
+lecAfter (Outcome r) n = pick (eqb r 7) n (resultCode r)
 lecAfter (Receive x) n = 0
 lecAfter (ReceiveError k t) n = k
 
@@ -58,7 +58,7 @@ putsCode Idle = false
 putsCode (BitTimes t) = false
 putsCode Activity = false
 putsCode Start = false
-putsCode (Outcome r) = leb 1 r && leb r 6
+putsCode (Outcome r) = isErrorResult r
 putsCode (Receive x) = false
 putsCode (ReceiveError k t) = leb 1 k && leb k 6
 

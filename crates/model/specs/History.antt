@@ -15,7 +15,7 @@ use Rattle.model.specs.Reception.{storedFrame}
 use Rattle.model.specs.Registers.{bankCount}
 use Rattle.model.specs.Step.{step}
 use Rattle.model.specs.Requests.{Requests, noneYet, next, event, entry, after}
-use Rattle.model.specs.Shown.{shown, esr, fm1r, fs1r, ffa1r, fa1r, ri, rdt, rdl, rdh, ti, tdt, tdl, tdh, rflm, abom, ttcm, inak, inNormal, fmp, boff, lec, rec, lbkm, finit, tec, timer, isDone, nextOf, bitTimes, resets, fifoNumber}
+use Rattle.model.specs.Shown.{shown, esr, fm1r, fs1r, ffa1r, fa1r, ri, rdt, rdl, rdh, ti, tdt, tdl, tdh, rflm, abom, ttcm, inak, inNormal, fmp, boff, lec, rec, lbkm, finit, tec, timer, isDone, nextOf, resultCode, bitTimes, resets, fifoNumber}
 use Rattle.model.specs.declared.Mailbox.{Mailbox}
 use Rattle.model.specs.declared.Sender.{Sender}
 use Rattle.model.specs.declared.Sender.the-variants.{Nobody, From}
@@ -225,9 +225,10 @@ idleCounted a v = record {
   reinitialized = a .reinitialized && not (isLast a v);
 }
 
--- good: TEC one less if not 0, LEC=0; lost (7): neither; error: TEC plus 8, LEC its code
+-- good: TEC one less if not 0, LEC=0; lost (7): neither; error: TEC plus 8, but not with 8 (02, Q-4), and LEC its code
 abbrev pub endCounted : ErrorCounts → ℕ → ErrorCounts
-endCounted a r = countersBecome a (pick (eqb r 0) (a .tec - 1) (pick (eqb r 7) (a .tec) (a .tec + 8))) (a .rec) (pick (eqb r 7) (a .lec) r)
+endCounted a r =
+    countersBecome a (pick (eqb r 0) (a .tec - 1) (pick (eqb r 7 || eqb r 8) (a .tec) (a .tec + 8))) (a .rec) (pick (eqb r 7) (a .lec) (resultCode r))
 
 -- an accepted step, before the mode rule
 abbrev pub stepCounted : ErrorCounts → Seen → steps.Step → ErrorCounts

@@ -205,7 +205,8 @@ started t m time = record {
   queue = sending (t .queue) m;
 }
 
--- an own end: 0 good, 7 arbitration lost, else an error. The request is over if it went well, with NART=1, or with a remembered abort
+-- an own end: 0 good, 7 arbitration lost, else an error, 8 (02, Q-4) too. The request is over if it went well, with NART=1, or
+-- with a remembered abort
 unfoldable pub over : Queue → Mailbox → ℕ → Bool → Bool
 over q m r nart = eqb r 0 || nart || flag (q .aborts) m
 

@@ -3,8 +3,8 @@
 use mathlib.Core.Bool.{Bool, false, not, _&&_, _||_}
 use mathlib.Core.Path.{_≡_}
 use Prim.Native.Nat.{ℕ, _+_, _*_}
-use lib.Dec.{eqb}
-use Rattle.base.specs.Base.{bit, bits}
+use lib.Dec.{eqb, leb}
+use Rattle.base.specs.Base.{pick, bit, bits}
 use Rattle.model.specs.Queue.{number}
 use Rattle.model.specs.Step.{step}
 use Rattle.model.specs.Script.{stepTag}
@@ -295,6 +295,13 @@ isStart s = eqb (stepTag s) 0x07
 
 abbrev pub isOutcome : steps.Step → Bool
 isOutcome s = eqb (stepTag s) 0x08
+
+-- what the result of an own end says: an error, 1 to 6 or 8 (02, Q-4); and the code that it has in LEC
+abbrev pub isErrorResult : ℕ → Bool
+isErrorResult r = (leb 1 r && leb r 6) || eqb r 8
+
+abbrev pub resultCode : ℕ → ℕ
+resultCode r = pick (eqb r 8) 3 r
 
 -- the bit times that the step says
 abbrev pub bitTimes : steps.Step → ℕ

@@ -10,7 +10,7 @@ use Rattle.model.specs.Queue.{isEmpty, senderNumber}
 use Rattle.model.specs.Mailboxes.{at, firstOf, started, ended}
 use Rattle.model.specs.Search.{acceptance}
 use Rattle.model.specs.Reception.{malformed, storedFrame, sentFrame, received, fmiOf, fifoLine}
-use Rattle.model.specs.Control.{txfp, rflm, nart, lbkm, silm, isSleep, isNormal, boff, idled, idleErrors, ticked, woken, outcomeErrors, receivedErrors, receiveErrorCounters, errorsChanged, statusLine}
+use Rattle.model.specs.Control.{txfp, rflm, nart, lbkm, silm, isSleep, isNormal, epvf, boff, idled, idleErrors, ticked, woken, outcomeErrors, receivedErrors, receiveErrorCounters, errorsChanged, statusLine}
 use Rattle.model.specs.Control as control
 use Rattle.model.specs.Registers.{registerAt, isAbsent, bankCount, reset, written, banksWritten, writeRefusal, readWord, isFree, withControl, withErrors, withTransmit}
 use Rattle.model.specs.declared.Sender.{Sender}
@@ -34,9 +34,9 @@ mayStart c =
     isNormal (c .control .mode) && not (boff (c .errors)) && isFree c && not (isEmpty (c .transmit .queue .order))
     && not (silm (c .control) && not (lbkm (c .control)))
 
--- an own end needs a frame on the wire; with LBKM=1 there is no acknowledgment error (3)
+-- an own end needs a frame on the wire; with LBKM=1 there is no acknowledgment error (3, and 8 of 02, Q-4), and 8 needs EPVF=1
 unfoldable pub mayEnd : Core → ℕ → Bool
-mayEnd c r = not (isFree c) && not (eqb r 3 && lbkm (c .control))
+mayEnd c r = not (isFree c) && not ((eqb r 3 || eqb r 8) && lbkm (c .control)) && not (eqb r 8 && not (epvf (c .errors)))
 
 unfoldable pub mayReceive : Core → Bool
 mayReceive c = isNormal (c .control .mode) && not (boff (c .errors)) && isFree c && not (lbkm (c .control)) && not (c .filters .finit)
@@ -53,7 +53,7 @@ refusal c Idle = pick (isFree c) 0 4
 refusal c (BitTimes n) = pick (leb 1 n && leb n 65535) 0 5
 refusal c Activity = pick (isSleep (c .control .mode)) 0 4
 refusal c Start = pick (mayStart c) 0 4
-refusal c (Outcome r) = pick (ltb 7 r) 5 (pick (mayEnd c r) 0 4)
+refusal c (Outcome r) = pick (ltb 8 r) 5 (pick (mayEnd c r) 0 4)
 refusal c (Receive x) = pick (malformed x) 5 (pick (mayReceive c) 0 4)
 refusal c (ReceiveError k n) = pick (receiveErrorInRange k n) (pick (mayReceive c) 0 4) 5
 

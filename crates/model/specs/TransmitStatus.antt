@@ -4,11 +4,11 @@ use mathlib.Core.Bool.{Bool, true, false, not, _&&_, _||_}
 use mathlib.Core.List.{List, [], _∷_, _++_}
 use mathlib.Core.Path.{_≡_}
 use Prim.Native.Nat.{ℕ, _+_, _*_, _<_, _≤_}
-use lib.Dec.{eqb, leb}
+use lib.Dec.{eqb}
 use lib.ListN.{length}
 use Rattle.base.specs.Base.{pick, bit}
 use Rattle.model.specs.Queue.{number}
-use Rattle.model.specs.Shown.{statusBit, rqcp, txok, alst, terr, abrq, code, tme, low, nart, nextOf}
+use Rattle.model.specs.Shown.{statusBit, rqcp, txok, alst, terr, abrq, code, tme, low, nart, nextOf, isErrorResult}
 use Rattle.model.specs.Codes.{offsetOf}
 use Rattle.model.specs.ReadBack.{afterWrite, has}
 use Rattle.model.specs.Arbitration.{requests, onWire, isPending, IsLast, Some}
@@ -82,12 +82,12 @@ abbrev pub afterEnd : Controller → ℕ → Controller
 afterEnd z r = nextOf z (Outcome r)
 
 -- "Good: empty, RQCP=TXOK=1, ALST=TERR=0 .. Lost: ALST=1, TERR=TXOK=0. Error: TERR=1, ALST=TXOK=0 .. After lost or error, NART=1 or a
--- remembered abort empties it with RQCP=1; else it is pending in its old place. Empty clears ABRQ."
+-- remembered abort empties it with RQCP=1; else it is pending in its old place. Empty clears ABRQ." 8 is an error too (02, Q-4)
 pub record OwnEnd (z : Controller) (m : Mailbox) (r : ℕ) : Type 0 where
   pub rqcp : rqcp m (afterEnd z r) ≡ endsRequest z m r
   pub txok : txok m (afterEnd z r) ≡ eqb r 0
   pub alst : alst m (afterEnd z r) ≡ eqb r 7
-  pub terr : terr m (afterEnd z r) ≡ leb 1 r && leb r 6
+  pub terr : terr m (afterEnd z r) ≡ isErrorResult r
   pub abrq : abrq m (afterEnd z r) ≡ false
   pub requests : requests (afterEnd z r) ≡ pick (endsRequest z m r) (except (λ n. eqb n (number m)) (requests z)) (requests z)
   pub wire : onWire (afterEnd z r) ≡ []

@@ -17,7 +17,7 @@ bytes (c then s) = code c ∷ bytes s
 unfoldable pub row : String → ℕ → ℕ → ℕ → ℕ → ℕ → List ℕ
 row name place size count x y = bytes name ++ (place / 256 ∷ place % 256 ∷ size ∷ count ∷ x ∷ y ∷ [])
 
--- rows 0 to 51
+-- rows 0 to 52
 unfoldable pub general : List (List ℕ)
 general =
     -- what begins a line
@@ -44,6 +44,7 @@ general =
     row "bit0    " 05 01 01 0 0 ∷
     row "crc     " 06 01 01 0 0 ∷
     row "lost    " 07 01 01 0 0 ∷
+    row "alone   " 08 01 01 0 0 ∷
     -- the interrupt lines
     row "TX      " 00 01 01 0 0 ∷
     row "FIFO0   " 01 01 01 0 0 ∷
@@ -54,31 +55,31 @@ general =
     row "refused " 01 01 01 0 0 ∷
     row "lines   " 02 01 01 0 0 ∷
     -- the registers
-    row "MCR     " 0x000 04 01 052 10 ∷
-    row "MSR     " 0x004 04 01 062 09 ∷
-    row "TSR     " 0x008 04 01 071 22 ∷
-    row "RF0R    " 0x00C 04 01 093 04 ∷
-    row "RF1R    " 0x010 04 01 097 04 ∷
-    row "IER     " 0x014 04 01 101 14 ∷
-    row "ESR     " 0x018 04 01 115 06 ∷
-    row "BTR     " 0x01C 04 01 121 06 ∷
-    row "TI%R    " 0x180 16 03 127 05 ∷
-    row "TDT%R   " 0x184 16 03 132 03 ∷
-    row "TDL%R   " 0x188 16 03 135 04 ∷
-    row "TDH%R   " 0x18C 16 03 139 04 ∷
-    row "RI%R    " 0x1B0 16 02 143 04 ∷
-    row "RDT%R   " 0x1B4 16 02 147 03 ∷
-    row "RDL%R   " 0x1B8 16 02 150 04 ∷
-    row "RDH%R   " 0x1BC 16 02 154 04 ∷
-    row "FMR     " 0x200 04 01 158 01 ∷
-    row "FM1R    " 0x204 04 01 159 01 ∷
-    row "FS1R    " 0x20C 04 01 160 01 ∷
-    row "FFA1R   " 0x214 04 01 161 01 ∷
-    row "FA1R    " 0x21C 04 01 162 01 ∷
+    row "MCR     " 0x000 04 01 053 10 ∷
+    row "MSR     " 0x004 04 01 063 09 ∷
+    row "TSR     " 0x008 04 01 072 22 ∷
+    row "RF0R    " 0x00C 04 01 094 04 ∷
+    row "RF1R    " 0x010 04 01 098 04 ∷
+    row "IER     " 0x014 04 01 102 14 ∷
+    row "ESR     " 0x018 04 01 116 06 ∷
+    row "BTR     " 0x01C 04 01 122 06 ∷
+    row "TI%R    " 0x180 16 03 128 05 ∷
+    row "TDT%R   " 0x184 16 03 133 03 ∷
+    row "TDL%R   " 0x188 16 03 136 04 ∷
+    row "TDH%R   " 0x18C 16 03 140 04 ∷
+    row "RI%R    " 0x1B0 16 02 144 04 ∷
+    row "RDT%R   " 0x1B4 16 02 148 03 ∷
+    row "RDL%R   " 0x1B8 16 02 151 04 ∷
+    row "RDH%R   " 0x1BC 16 02 155 04 ∷
+    row "FMR     " 0x200 04 01 159 01 ∷
+    row "FM1R    " 0x204 04 01 160 01 ∷
+    row "FS1R    " 0x20C 04 01 161 01 ∷
+    row "FFA1R   " 0x214 04 01 162 01 ∷
+    row "FA1R    " 0x21C 04 01 163 01 ∷
     row "F%R1    " 0x240 08 14 000 00 ∷
     row "F%R2    " 0x244 08 14 000 00 ∷ []
 
--- rows 52 to 162: the fields of the registers
+-- rows 53 to 163: the fields of the registers
 unfoldable pub fields : List (List ℕ)
 fields =
     -- MCR
@@ -226,7 +227,7 @@ rowOf (r ∷ l) (suc i) = rowOf l i
 
 -- a row by its number
 unfoldable pub text : ℕ → List ℕ
-text i = pick (ltb i 52) (rowOf general i) (rowOf fields (i - 52))
+text i = pick (ltb i 53) (rowOf general i) (rowOf fields (i - 53))
 
 -- row i of rows that stand one behind the other
 unfoldable pub cut : List ℕ → ℕ → List ℕ

@@ -20,9 +20,9 @@ use Rattle.names.specs.declared.scan.Word.{Word}
 use Rattle.names.specs.declared.rows.Found.{Found}
 use Rattle.names.specs.declared.rows.Numbers.{Numbers}
 
--- no row: there are 163
+-- no row: there are 164
 abbrev pub none : ℕ
-none = 163
+none = 164
 
 abbrev pub nowhere : Found
 nowhere = record { row = none; index = 0 }

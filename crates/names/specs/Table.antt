@@ -17,12 +17,12 @@ span i n = record { first = i; count = n }
 
 -- the rows of a group: the first, and how many there are; the last two numbers of a register are those of its fields
 unfoldable pub rowsOf : Group → Span
-rowsOf Registers = span 29 23
+rowsOf Registers = span 30 23
 rowsOf (Fields row) = span (numbers row .digits) (numbers row .shown)
 rowsOf Steps = span 0 14
-rowsOf Results = span 14 8
-rowsOf Lines = span 22 5
-rowsOf Expectations = span 27 2
+rowsOf Results = span 14 9
+rowsOf Lines = span 23 5
+rowsOf Expectations = span 28 2
 
 -- the row that a word names in a group
 unfoldable pub named : List ℕ → Word → Group → Found
@@ -30,7 +30,7 @@ named s w g = indexed s w (findOn s w (rowsOf g .first) (rowsOf g .count))
 
 -- the row of the register at an offset
 unfoldable pub registerAt : ℕ → Found
-registerAt o = registerOn o 29 23
+registerAt o = registerOn o 30 23
 
 unfoldable pub number : ℕ → Column → ℕ
 number row Place = numbers row .place

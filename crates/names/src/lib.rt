@@ -41,7 +41,7 @@ pub fn rows_of(g: Group) -> Span
 {
     match g {
         Group::Registers => Span {
-            first: 29,
+            first: 30,
             count: 23,
         },
         Group::Fields(row) => {
@@ -57,14 +57,14 @@ pub fn rows_of(g: Group) -> Span
         },
         Group::Results => Span {
             first: 14,
-            count: 8,
+            count: 9,
         },
         Group::Lines => Span {
-            first: 22,
+            first: 23,
             count: 5,
         },
         Group::Expectations => Span {
-            first: 27,
+            first: 28,
             count: 2,
         },
     }

@@ -6,12 +6,12 @@ use super::scan::byte_at;
 use super::table::text;
 
 // No row.
-pub const NONE: usize = 163;
+pub const NONE: usize = 164;
 
 // The registers are the rows from one up to another.
-pub(crate) const REGISTERS: usize = 29;
+pub(crate) const REGISTERS: usize = 30;
 
-pub(crate) const FIELDS: usize = 52;
+pub(crate) const FIELDS: usize = 53;
 
 // A row, with the number that stands in a name for the percent sign; row NONE where there is none.
 pub struct Found {

@@ -10,7 +10,7 @@ use Rattle.phrases.specs.Names.{nameText}
 use Rattle.phrases.specs.Lines.{lineText, linesOn}
 
 module _ (m : Line) (up i : ℕ) where
-  pub line-up : (r : Line) → up / 2 ^ i % 2 ≡ 1 → r ≡ putAll (added m 32) (nameText (22 + i) 0) → r ≡ putAll m (lineText up i)
+  pub line-up : (r : Line) → up / 2 ^ i % 2 ≡ 1 → r ≡ putAll (added m 32) (nameText (23 + i) 0) → r ≡ putAll m (lineText up i)
   unfolding lineText putAll
   line-up r h e = rw (eq-eqb _ _ h) e
 

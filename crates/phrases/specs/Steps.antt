@@ -24,7 +24,7 @@ writeText o w full = begun 3 ++ (registerText o ++ writtenText o w full)
 
 -- rows 14 to 21 are the results from 0 to 7
 unfoldable pub resultText : ℕ → List ℕ
-resultText r = pick (ltb r 8) (nameText (14 + r) 0) (decimal r)
+resultText r = pick (ltb r 9) (nameText (14 + r) 0) (decimal r)
 
 unfoldable pub errorText : ℕ → ℕ → List ℕ
 errorText code by = begun 10 ++ (decimal code ++ (32 ∷ decimal by))

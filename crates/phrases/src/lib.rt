@@ -214,7 +214,7 @@ fn write(l: Line, offset: u32, w: u32, full: bool) -> Line
 fn outcome(l: Line, result: u8) -> Line
     ensures { λ r. ⌜ r ≡ lines.putAll l (steps.resultText result) ⌝ }
 {
-    if result < 8 {
+    if result < 9 {
         return name(l, 14 + result as usize, 0);
     }
     decimal(l, result as u64)
@@ -262,7 +262,7 @@ pub fn lines(l: Line, up: u8) -> Line
     let mut i: u8 = 0;
     while i < 4 {
         if (up >> i) % 2 == 1 {
-            m = name(byte(m, b' '), 22 + i as usize, 0);
+            m = name(byte(m, b' '), 23 + i as usize, 0);
         }
         i += 1;
     }

@@ -47,7 +47,10 @@ pub fn may_end(c: Core, r: u8) -> bool
     ensures { λ a. ⌜ a ≡ stepping.mayEnd c r ⌝ }
 {
     let k = c.control;
-    !is_free(c) & !((r == 3) & control::lbkm(k))
+    let e = c.errors;
+    !is_free(c)
+        & !(((r == 3) | (r == 8)) & control::lbkm(k))
+        & !((r == 8) & !control::is_passive(e.tec, e.rec))
 }
 
 pub fn may_receive(c: Core) -> bool
@@ -106,7 +109,7 @@ pub fn write_refusal(g: Register, c: Core) -> u8
 pub fn outcome_refusal(c: Core, result: u8) -> u8
     ensures { λ r. ⌜ r ≡ stepping.refusal c (steps.Outcome result) ⌝ }
 {
-    if 7 < result {
+    if 8 < result {
         return 5;
     }
     bits::pick_u8(may_end(c, result), 0, 4)

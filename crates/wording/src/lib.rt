@@ -37,7 +37,7 @@ pub fn refused(l: Line, code: u8, reason: u32, index: u32) -> Line
     let a = said(l, b"refused %: ", 0, code as u64);
     said(
         a,
-        b"offset isn't a multiple of 4|no register has this offset|a receive mailbox is read only|BTR needs Initialization mode|mailbox % isn't empty|FM1R needs FINIT=1|FS1R needs FINIT=1|FFA1R needs FINIT=1|bank % is active, FINIT=0|bit times are 1 to 65535|the result is over 7|bit 0 of the identifier word|standard with extended bits|length code over 15|error code isn't 1 to 6|REC goes up by 1 or 8|own frame on the wire|not in Sleep mode|not in Normal mode|bus-off|no request is pending|silent mode (SILM=1)|no frame on the wire|loopback needs no acknowledgment|loopback mode (LBKM=1)|filters not in use (FINIT=1)|",
+        b"offset isn't a multiple of 4|no register has this offset|a receive mailbox is read only|BTR needs Initialization mode|mailbox % isn't empty|FM1R needs FINIT=1|FS1R needs FINIT=1|FFA1R needs FINIT=1|bank % is active, FINIT=0|bit times are 1 to 65535|the result is over 8|bit 0 of the identifier word|standard with extended bits|length code over 15|error code isn't 1 to 6|REC goes up by 1 or 8|own frame on the wire|not in Sleep mode|not in Normal mode|bus-off|no request is pending|silent mode (SILM=1)|no frame on the wire|loopback needs no acknowledgment|loopback mode (LBKM=1)|filters not in use (FINIT=1)|not error passive (EPVF=0)|",
         reason,
         index as u64,
     )
@@ -57,11 +57,17 @@ fn lines(l: Line, up: u8) -> Line {
     lines_up(column(l, LINES_COLUMN - 1), up, b" -")
 }
 
-// The word of a read, the mailbox of a start, or nothing to say.
+// The word of a read, the mailbox of a start, what went wrong with an own frame, or nothing to say.
 fn done(l: Line, e: Step, word: u32) -> Line {
     match e {
         Step::Read(o) => phrases::fields(text::hex(l, word, 8), o as u32, word),
         Step::Start => said(l, b"mailbox %", 0, word as u64),
+        Step::Outcome(result) => said(
+            l,
+            b"-|stuff error|form error|no acknowledgment|recessive bit error|dominant bit error|CRC error|arbitration lost|no acknowledgment, error passive",
+            result as u32,
+            0,
+        ),
         _ => byte(l, b'-'),
     }
 }

@@ -15,14 +15,24 @@ returns-2 : tie.Need-returns-2
 unfolding outcomeErrors
 returns-2 c = simp (eq-eqb _ _ (c .if2 .taken), ne-eqb _ _ (c .before .if1 .left))
 
+returns-3 : tie.Need-returns-3
+unfolding outcomeErrors
+returns-3 c = simp (eq-eqb _ _ (c .if3 .taken), ne-eqb _ _ (c .before .if2 .left), ne-eqb _ _ (c .before .before .if1 .left))
+
 wrapping-add-u16-requires : tie.Need-wrapping-add-u16-requires
 wrapping-add-u16-requires c κs = search needs
 
-returns-3 : tie.Need-returns-3
+returns-4 : tie.Need-returns-4
 unfolding outcomeErrors
-returns-3 c = simp (c .wrapping-add-u16 .ensures, ne-eqb _ _ (c .before .if2 .left), ne-eqb _ _ (c .before .before .if1 .left))
+returns-4 c =
+    simp (
+      c .wrapping-add-u16 .ensures,
+      ne-eqb _ _ (c .before .if3 .left),
+      ne-eqb _ _ (c .before .before .if2 .left),
+      ne-eqb _ _ (c .before .before .before .if1 .left),
+    )
 
 pub outcome-errors-spec : {M : Type 1} → statement M
 outcome-errors-spec =
     tie.close
-    (tie.spec less-one-u16-requires returns returns-2 wrapping-add-u16-requires returns-3)
+    (tie.spec less-one-u16-requires returns returns-2 returns-3 wrapping-add-u16-requires returns-4)

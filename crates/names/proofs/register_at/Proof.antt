@@ -9,10 +9,10 @@ use Rattle.names.proofs.register_at.Statement.{statement}
 use Rattle.names.proofs.register_at.Tie as tie
 
 abbrev Inv-loop : tie.InvT-loop
-Inv-loop offset row₀ row = rows.registerOn offset row (52 - row) ≡ tables.registerAt offset
+Inv-loop offset row₀ row = rows.registerOn offset row (53 - row) ≡ tables.registerAt offset
 
 abbrev μ-loop : tie.MeasureT-loop
-μ-loop offset row₀ row = 52 - row
+μ-loop offset row₀ row = 53 - row
 
 loop-holds : tie.Need-loop-holds Inv-loop μ-loop
 unfolding tables.registerAt
@@ -30,7 +30,7 @@ returns c =
     let a = c .before .before .before .before .before .before .args in
     let l = c .before .before .before .before .before .loop in
     let i = rw (c .before .before .before .numbers-of .ensures) at (c .before .before .index-at .ensures) in
-    rw i (sym (register-stops (a .offset) (l .row) 52 (c .before .before .before .before .loop-test .taken) (rw (← i, ← (c .before .before .before .numbers-of .ensures)) (lt-ltb _ _ (c .if1 .taken)))) ∙ l .inv)
+    rw i (sym (register-stops (a .offset) (l .row) 53 (c .before .before .before .before .loop-test .taken) (rw (← i, ← (c .before .before .before .numbers-of .ensures)) (lt-ltb _ _ (c .if1 .taken)))) ∙ l .inv)
 
 add-row : tie.Need-add-row Inv-loop μ-loop
 add-row c = search needs
@@ -44,13 +44,13 @@ loop-again c =
     let a = c .before .before .before .before .before .before .args in
     let l = c .before .before .before .before .before .loop in
     let i = rw (c .before .before .before .numbers-of .ensures) at (c .before .before .index-at .ensures) in
-    sym (register-on (a .offset) (l .row) 52 (c .before .before .before .before .loop-test .taken) (rw (← i, ← (c .before .before .before .numbers-of .ensures)) (le-ltb _ _ (c .if1 .left)))) ∙ l .inv
+    sym (register-on (a .offset) (l .row) 53 (c .before .before .before .before .loop-test .taken) (rw (← i, ← (c .before .before .before .numbers-of .ensures)) (le-ltb _ _ (c .if1 .left)))) ∙ l .inv
 
 returns-2 : tie.Need-returns-2 Inv-loop μ-loop
 returns-2 c =
     let a = c .before .before .args in
     let l = c .before .loop in
-    sym (register-ended (a .offset) (l .row) 52 (c .loop-test .left)) ∙ l .inv
+    sym (register-ended (a .offset) (l .row) 53 (c .loop-test .left)) ∙ l .inv
 
 pub register-at-spec : {M : Type 1} → statement M
 register-at-spec =

@@ -47,7 +47,7 @@ loop-again c =
     let up = c .before .before .before .args .up in
     lines-on (l .m) up (l .i) _ _ (c .before .loop-test .taken)
     (⊎-elim
-    (λ w. line-up (l .m) up (l .i) _ (w .0 .taken) (w .3 ∙ (w .2 .ensures ∙ ap (λ (x : Line). putAll x (nameText (22 + l .i) 0)) (w .1 .ensures .1))))
+    (λ w. line-up (l .m) up (l .i) _ (w .0 .taken) (w .3 ∙ (w .2 .ensures ∙ ap (λ (x : Line). putAll x (nameText (23 + l .i) 0)) (w .1 .ensures .1))))
     (λ w. w .1 ∙ line-down (l .m) up (l .i) (w .0 .left))
     (c .if1 .came)) (l .inv)
 

@@ -1,4 +1,4 @@
--- A result past 7 is code 5; the others have the code of an end that may not come.
+-- A result past 8 is code 5; the others have the code of an end that may not come.
 use Rattle.model.specs.Step.{refusal}
 use borrow.Author.Tests.{lt-ltb, le-ltb}
 use borrow.Author.Needs.{needs}
