@@ -70,9 +70,9 @@ fn changed_byte(rng: &mut Rng, mut line: Vec<u8>) -> Vec<u8> {
 }
 
 /// Words that may stand nowhere, or only elsewhere.
-const STRANGERS: [&str; 22] = [
-    "0", "1", "2", "256", "65536", "0x", "-1", "1.5", "MCR", "F14R1", "TI3R", "INRQ", "STID", "BRP", "good", "none",
-    "TX", "lines", "refused", "reset", "123#11", "zz",
+const STRANGERS: [&str; 23] = [
+    "0", "1", "2", "256", "65536", "0x", "-1", "1.5", "MCR", "F14R1", "TI3R", "INRQ", "STID", "BRP", "good", "alone",
+    "none", "TX", "lines", "refused", "reset", "123#11", "zz",
 ];
 
 /// Every rule, at least once.

@@ -379,6 +379,7 @@ fn a_refused_block_comes_first() {
         WideStep::Write(0x1C, 0),
         WideStep::BitTimes(0),
         WideStep::OwnEnd(8),
+        WideStep::OwnEnd(9),
         WideStep::Start,
     ];
     for step in steps {
@@ -410,6 +411,7 @@ fn wide_numbers() {
         assert_eq!(call(0, &mut block, error(1, more | 8)), 5);
     }
     assert_eq!(call(0, &mut block, WideStep::OwnEnd(0x100)), 5);
+    assert_eq!(call(0, &mut block, WideStep::OwnEnd(0x108)), 5);
     assert_eq!(call(0, &mut block, frame(0x108)), 5);
     assert_eq!(call(0, &mut block, error(0x101, 1)), 5);
     assert_eq!(call(0, &mut block, error(1, 0x108)), 5);
@@ -437,6 +439,30 @@ fn a_frame_by_words() {
     assert_eq!(block[FMP0..=FOVR0], [1, 0, 0, 0]);
 }
 
+/// Own end 8 on blocks whose frame of mailbox 0 is on the wire: TEC and REC
+/// stay, LEC becomes 3, TERR is set, and the request waits on.
+#[test]
+fn own_end_8_by_block() {
+    for (tec, rec) in [(128, 0), (0, 128), (127, 128), (128, 127), (255, 255), (0, 255)] {
+        let sending = normal_with(&[(TEC, &[tec, 0]), (REC, &[rec]), (LEC, &[7]), (ORDER, &[0]), (WIRE, &[0])]);
+        let mut block = sending;
+        assert_eq!(call(0, &mut block, WideStep::OwnEnd(8)), 0);
+        let mut expected = sending;
+        (expected[LEC], expected[TERR0], expected[WIRE]) = (3, 1, 3);
+        assert_eq!(block, expected);
+        assert_eq!(call(0, &mut block, WideStep::OwnEnd(8)), 4);
+        assert_eq!(call(0, &mut block, WideStep::OwnEnd(9)), 5);
+        assert_eq!(block, expected);
+    }
+    for (tec, rec) in [(127, 127), (0, 0), (127, 0), (0, 127)] {
+        let sending = normal_with(&[(TEC, &[tec, 0]), (REC, &[rec]), (ORDER, &[0]), (WIRE, &[0])]);
+        let mut block = sending;
+        assert_eq!(call(0, &mut block, WideStep::OwnEnd(8)), 4);
+        assert_eq!(call(0, &mut block, WideStep::OwnEnd(9)), 5);
+        assert_eq!(block, sending);
+    }
+}
+
 /// Demand 3 from a loaded block: its requests count as accepted at loading.
 #[test]
 fn request_book_of_a_loaded_block() {
@@ -462,7 +488,7 @@ fn request_step(rng: &mut Rng) -> Step {
     match rng.below(12) {
         0..=2 => Step::Write(0x180 + 0x10 * rng.below(3) as u16, rng.word() | 1),
         3..=6 => Step::Start,
-        7..=9 => Step::OwnEnd(rng.pick(&[0, 0, 0, 1, 7])),
+        7..=9 => Step::OwnEnd(rng.pick(&[0, 0, 0, 1, 7, 8])),
         10 => Step::Write(0x08, 0x80 << (8 * rng.below(3))),
         _ => Step::Write(0, rng.pick(&[0x04, 0x04, 0x14, 0x00])),
     }

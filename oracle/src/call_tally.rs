@@ -74,6 +74,32 @@ const EDGES: [Edge; 24] = [
     ("FOVR without FULL", |fields| fields.fifos.iter().any(|fifo| fifo.overrun == 1 && fifo.full == 0)),
 ];
 
+type End = (&'static str, u32, u8, fn(&Fields) -> bool);
+
+/// Own ends 8 and 9 by result and code, and what the block before them has.
+const ENDS: [End; 10] = [
+    ("own end 8 done by TEC alone", 8, 0, |fields| fields.errors.rec < 128),
+    ("own end 8 done by REC alone", 8, 0, |fields| fields.errors.tec < 128),
+    ("own end 8 done by both counters", 8, 0, |fields| fields.errors.tec.min(fields.errors.rec) > 127),
+    ("own end 8 done with NART=1", 8, 0, |fields| fields.control.mcr & mcr::NART != 0),
+    ("own end 8 done with a remembered abort", 8, 0, |fields| fields.requests.aborts.contains(&1)),
+    ("own end 8 refused for EPVF alone", 8, 4, |fields| on_wire(fields) && !is_loopback(fields)),
+    ("own end 8 refused for LBKM alone", 8, 4, |fields| on_wire(fields) && is_passive(fields)),
+    ("own end 8 refused for none on the wire alone", 8, 4, |fields| {
+        !on_wire(fields) && is_passive(fields) && !is_loopback(fields)
+    }),
+    ("own end 9 with a frame on the wire", 9, 5, on_wire),
+    ("own end 9 with none on the wire", 9, 5, |fields| !on_wire(fields)),
+];
+
+fn is_passive(fields: &Fields) -> bool {
+    fields.errors.tec.max(fields.errors.rec) > 127
+}
+
+fn is_loopback(fields: &Fields) -> bool {
+    fields.control.btr & btr::LBKM != 0
+}
+
 fn on_wire(fields: &Fields) -> bool {
     fields.requests.on_wire != NO_MAILBOX
 }
@@ -98,6 +124,7 @@ pub struct Tally {
     /// Blocks that break just one rule, by this rule.
     rules: [u64; RULES.len()],
     edges: [u64; EDGES.len()],
+    ends: [u64; ENDS.len()],
 }
 
 impl Tally {
@@ -109,6 +136,7 @@ impl Tally {
             codes: [[0; CODE_BLOCK as usize + 1]; CALLS.len()],
             rules: [0; RULES.len()],
             edges: [0; EDGES.len()],
+            ends: [0; ENDS.len()],
         }
     }
 
@@ -128,6 +156,13 @@ impl Tally {
         }
     }
 
+    /// An own end on a block with these numbers had this code.
+    pub fn note_end(&mut self, before: &Fields, result: u32, code: u8) {
+        for (&(_, of_result, of_code, has), met) in ENDS.iter().zip(&mut self.ends) {
+            *met += ((of_result, of_code) == (result, code) && has(before)) as u64;
+        }
+    }
+
     /// What was never met, in words.
     pub fn missing(&self) -> Vec<String> {
         let mut missing = Vec::new();
@@ -139,6 +174,8 @@ impl Tally {
         missing.extend(never.map(|((.., text), _)| format!("a block refused for this alone: {text}")));
         let never = EDGES.iter().zip(&self.edges).filter(|(_, &met)| met == 0);
         missing.extend(never.map(|((name, _), _)| format!("a block taken with {name}")));
+        let never = ENDS.iter().zip(&self.ends).filter(|(_, &met)| met == 0);
+        missing.extend(never.map(|((name, ..), _)| name.to_string()));
         missing
     }
 }

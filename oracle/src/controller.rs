@@ -43,6 +43,10 @@ const RECOVERY_IDLES: u8 = 128;
 const TEC_LIMIT: u16 = 255;
 const REC_MOST: u16 = 255;
 const LEC_BY_SOFTWARE: u8 = 7;
+const ACKNOWLEDGMENT_ERROR: u8 = 3;
+/// Results of an own end behind 0 and the error codes.
+const LOST: u8 = 7;
+const ALONE: u8 = 8;
 
 #[derive(Clone, PartialEq, Eq, Debug)]
 pub struct Controller {
@@ -148,7 +152,8 @@ impl Controller {
         self.conclude(outcome)
     }
 
-    /// The own frame ends: 0 good, 1 to 6 an error code, 7 arbitration lost.
+    /// The own frame ends: 0 good, 1 to 6 an error code, 7 arbitration lost, 8
+    /// an acknowledgment error of an error-passive transmitter that is alone.
     pub fn own_end(&mut self, result: u8) -> Answer {
         let outcome = self.accept_own_end(result);
         self.conclude(outcome)
@@ -260,6 +265,11 @@ impl Controller {
 
     pub fn is_silent(&self) -> bool {
         self.btr & btr::SILM != 0
+    }
+
+    /// EPVF.
+    pub fn is_error_passive(&self) -> bool {
+        self.error_flags() & esr::EPVF != 0
     }
 
     /// The identifier word that a good own end would pass through the filters.
@@ -855,8 +865,8 @@ impl Controller {
     }
 
     fn accept_own_end(&mut self, result: u8) -> Outcome {
-        let none_is_4 = made(Mistake::OwnEndAbove7Is4) && !self.on_wire();
-        if result > 7 && !none_is_4 || result == 7 && made(Mistake::OwnEnd7Unknown) {
+        let result = if result == 9 && made(Mistake::OwnEnd9Taken) { ALONE } else { result };
+        if result > ALONE && !self.wrongly_in_range() || cfg!(wrong) && self.wrongly_out_of_range(result) {
             here!();
             return Err(Refusal::OutOfRange);
         }
@@ -864,22 +874,91 @@ impl Controller {
             Some(x) => x,
             None => {
                 here!();
-                return Err(Refusal::WrongState);
+                return self.end_of_nothing(result);
             }
         };
-        if result == 3 && self.is_loopback() && !made(Mistake::AckErrorInLoopback)
-            || result == 7 && self.is_loopback() && made(Mistake::LostRefusedInLoopback)
-            || result == 0 && self.is_loopback() && self.filters.initializing && made(Mistake::LoopbackFinitRefused)
-        {
+        if !self.can_end_by(result) {
             here!();
             return Err(Refusal::WrongState);
         }
         match result {
             0 => self.end_well(x),
-            7 => self.end_lost(x),
+            LOST => self.end_lost(x),
+            ALONE => self.end_alone(x),
             code => self.end_with_error(x, code),
         }
         DONE
+    }
+
+    /// A result above 8 that isn't 5.
+    fn wrongly_in_range(&self) -> bool {
+        made(Mistake::OwnEndAbove8Is4) && !self.on_wire() || made(Mistake::OwnEndAbove8OnWireIs4) && self.on_wire()
+    }
+
+    /// A result up to 8 that is 5.
+    fn wrongly_out_of_range(&self, result: u8) -> bool {
+        match result {
+            LOST => made(Mistake::OwnEnd7Unknown),
+            ALONE => {
+                made(Mistake::OwnEnd8Unknown)
+                    || made(Mistake::AloneErrorActiveIs5) && !self.is_error_passive()
+                    || made(Mistake::AloneInLoopbackIs5) && self.is_loopback()
+                    || made(Mistake::AloneOffWireIs5) && !self.on_wire()
+            }
+            _ => false,
+        }
+    }
+
+    /// An own end with none on the wire.
+    fn end_of_nothing(&mut self, result: u8) -> Outcome {
+        if made(Mistake::AloneOffWireTaken) && result == ALONE && self.can_end_alone() {
+            self.count_error(ACKNOWLEDGMENT_ERROR, self.tec, self.rec);
+            return DONE;
+        }
+        Err(Refusal::WrongState)
+    }
+
+    /// Can the frame on the wire end so? In loopback nobody has to acknowledge it.
+    fn can_end_by(&self, result: u8) -> bool {
+        let loopback = self.is_loopback();
+        match result {
+            0 => !(loopback && self.filters.initializing && made(Mistake::LoopbackFinitRefused)),
+            ACKNOWLEDGMENT_ERROR => !loopback || made(Mistake::AckErrorInLoopback),
+            LOST => !(loopback && made(Mistake::LostRefusedInLoopback)),
+            ALONE => self.can_end_alone(),
+            _ => result < ALONE,
+        }
+    }
+
+    /// Result 8 is that of an error-passive transmitter.
+    fn can_end_alone(&self) -> bool {
+        let wrongly = made(Mistake::AloneInLoopback) || made(Mistake::AloneInSilentLoopback) && self.is_silent();
+        if self.is_loopback() && !wrongly {
+            here!();
+            return false;
+        }
+        let passive = if cfg!(wrong) { self.perhaps_wrongly_passive() } else { self.is_error_passive() };
+        if !passive {
+            here!();
+        }
+        passive
+    }
+
+    /// EPVF as own end 8 finds it.
+    fn perhaps_wrongly_passive(&self) -> bool {
+        let most = self.tec.max(self.rec);
+        match () {
+            () if made(Mistake::AloneWhileErrorActive) => true,
+            () if made(Mistake::AlonePassiveByTecOnly) => self.tec >= 128,
+            () if made(Mistake::AlonePassiveByRecOnly) => self.rec >= 128,
+            () if made(Mistake::AlonePassiveByBoth) => self.tec.min(self.rec) >= 128,
+            () if made(Mistake::AlonePassiveFrom127) => most >= 127,
+            () if made(Mistake::AlonePassiveFrom129) => most >= 129,
+            () if made(Mistake::AlonePassiveAfterEvent) => most.max(self.tec + 8) >= 128,
+            () if made(Mistake::AloneByWarning) => self.error_flags() & esr::EWGF != 0,
+            () if made(Mistake::AloneInBusOffOnly) => self.is_bus_off(),
+            () => self.is_error_passive(),
+        }
     }
 
     fn end_well(&mut self, x: usize) {
@@ -925,12 +1004,52 @@ impl Controller {
     fn end_with_error(&mut self, x: usize, code: u8) {
         here!();
         self.transmitter.end_failed(x, tsr::TERR, self.single_try());
-        let tec = match () {
-            () if made(Mistake::TecPlusOne) => self.tec + 1,
-            () if made(Mistake::TecStopsAt256) => (self.tec + 8).min(256),
-            () => self.tec + 8,
+        let tec = match code {
+            _ if made(Mistake::TecPlusOne) => self.tec + 1,
+            _ if made(Mistake::TecStopsAt256) => (self.tec + 8).min(256),
+            ACKNOWLEDGMENT_ERROR if made(Mistake::AckLeavesTecWhenPassive) && self.is_error_passive() => self.tec,
+            _ => self.tec + 8,
         };
         self.count_error(code, tec, self.rec);
+    }
+
+    /// Nobody acknowledged, and no dominant bit came during the passive error
+    /// flag: all that an acknowledgment error does, but TEC stays.
+    fn end_alone(&mut self, x: usize) {
+        here!();
+        self.transmitter.end_alone(x, self.single_try());
+        if cfg!(wrong) {
+            return self.count_alone_perhaps_wrongly();
+        }
+        self.count_error(ACKNOWLEDGMENT_ERROR, self.tec, self.rec);
+    }
+
+    fn count_alone_perhaps_wrongly(&mut self) {
+        let (old_flags, old_code) = (self.flags, self.lec);
+        let tec = match () {
+            () if made(Mistake::AloneRaisesTec) => self.tec + 8,
+            () if made(Mistake::AloneAdds1ToTec) => self.tec + 1,
+            () if made(Mistake::AloneLowersTec) => self.tec.saturating_sub(1),
+            () if made(Mistake::AloneRaisesTecBelow128) && self.tec < 128 => self.tec + 8,
+            () if made(Mistake::AloneTecAtMost128) => self.tec.min(128),
+            () => self.tec,
+        };
+        let rec = if made(Mistake::AloneRaisesRec) { (self.rec + 8).min(REC_MOST) } else { self.rec };
+        let code = match () {
+            () if made(Mistake::AloneLecMasked) => ALONE & 7,
+            () if made(Mistake::AloneLecIs8) => ALONE,
+            () if made(Mistake::AloneLec7) => LEC_BY_SOFTWARE,
+            () if made(Mistake::AloneKeepsLec) => self.lec,
+            () => ACKNOWLEDGMENT_ERROR,
+        };
+        self.count_error(code, tec, rec);
+        let known = made(Mistake::AloneErriByNewCodeOnly) && old_code == ACKNOWLEDGMENT_ERROR;
+        if made(Mistake::AloneWithoutErri) || known {
+            self.flags = old_flags;
+        }
+        if made(Mistake::AloneAlwaysErri) {
+            self.flags |= msr::ERRI;
+        }
     }
 
     fn single_try(&self) -> bool {

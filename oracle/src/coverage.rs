@@ -13,7 +13,7 @@ use crate::lesson_text;
 use crate::malformed::broken_script;
 use crate::openings::openings;
 use crate::random_calls::{self, Itself};
-use crate::registers::{mcr, Register, FIFOS};
+use crate::registers::{esr, ier, mcr, msr, tsr, Register, FIFOS};
 use crate::replies::read_reply;
 use crate::script::{decode, step, Step, CODE_SHORT, REPLY_LENGTH};
 use crate::text_writer;
@@ -289,12 +289,18 @@ impl Meetings {
     }
 
     fn note_own_end(&mut self, result: u8, before: &Controller, after: &Controller, code: u8) {
+        if result == 3 && code == 0 {
+            self.note(format!("own end 3, EPVF {}", before.is_error_passive()));
+        }
+        if result == 8 {
+            self.note_alone(before, code);
+        }
         let x = match (before.transmitter().on_wire(), code) {
             (Some(x), 0) => x,
             _ => {
                 let place = if before.is_loopback() { "loopback" } else { "no loopback" };
                 let wire = if before.on_wire() { "on the wire" } else { "none on the wire" };
-                return self.note(format!("own end {} refused by {code}, {wire}, {place}", result.min(8)));
+                return self.note(format!("own end {} refused by {code}, {wire}, {place}", result.min(9)));
             }
         };
         let ended = after.transmitter().mailbox(x).is_empty();
@@ -304,6 +310,52 @@ impl Meetings {
         if before.is_loopback() && result == 0 {
             self.note_storing("loopback", before, after);
             self.note(format!("loopback end, FINIT {}", before.filters().initializing));
+        }
+    }
+
+    /// Own end 8: by which counter it is accepted, or why it is refused.
+    fn note_alone(&mut self, before: &Controller, code: u8) {
+        if code == 0 {
+            let by = match (before.tec() > 127, before.rec() > 127) {
+                (true, true) => "both",
+                (true, false) => "TEC alone",
+                _ => "REC alone",
+            };
+            self.note(format!("own end 8 accepted by {by}"));
+            self.note_accepted_alone(before);
+        } else {
+            let loopback = if before.is_silent() { "silent loopback" } else { "loopback" };
+            let reasons = [
+                ("EPVF", !before.is_error_passive()),
+                (loopback, before.is_loopback()),
+                ("none on the wire", !before.on_wire()),
+            ];
+            self.note_only("own end 8 refused", &reasons);
+        }
+        let counters = [before.tec(), before.rec()];
+        let near = NEAR_PASSIVE.iter().any(|&(near, _)| near == counters);
+        if near && before.on_wire() && !before.is_loopback() {
+            self.note(format!("own end 8 with TEC {}, REC {}, code {code}", before.tec(), before.rec()));
+        }
+    }
+
+    fn note_accepted_alone(&mut self, before: &Controller) {
+        let word = |offset: u16| before.clone().read(offset).word;
+        let lecie = word(0x14) & ier::LECIE != 0;
+        let erri = word(0x04) & msr::ERRI != 0;
+        self.note(format!("own end 8, LECIE {lecie}, ERRI {erri} before"));
+        self.note(format!("own end 8, LEC {} before", word(0x18) >> esr::LEC_PLACE & 7));
+        let others = before.transmitter().pending_count();
+        self.note(format!("own end 8, {others} more pending, TXFP {}", before.mcr() & mcr::TXFP != 0));
+        self.note(format!("own end 8 with requests {:02b}", before.mcr() & (mcr::INRQ | mcr::SLEEP)));
+        if let Some(x) = before.transmitter().on_wire() {
+            let flags = word(0x08) >> (8 * x) & (tsr::ALST | tsr::TERR);
+            let earlier = match flags {
+                0 => "none",
+                tsr::ALST => "lost",
+                _ => "an error",
+            };
+            self.note(format!("own end 8, the try before: {earlier}"));
         }
     }
 
@@ -426,7 +478,7 @@ fn expect_fifos(meetings: &mut Meetings) {
 }
 
 fn expect_own_ends(meetings: &mut Meetings) {
-    for result in 0..=7 {
+    for result in 0..=8 {
         for nart in [false, true] {
             for aborted in [false, true] {
                 let ended = result == 0 || nart || aborted;
@@ -437,10 +489,47 @@ fn expect_own_ends(meetings: &mut Meetings) {
             meetings.0.insert(format!("own end {result} refused by 4, none on the wire, {place}"), 0);
         }
     }
-    meetings.0.insert("own end 3 refused by 4, on the wire, loopback".into(), 0);
-    for wire in ["on the wire", "none on the wire"] {
-        meetings.0.insert(format!("own end 8 refused by 5, {wire}, no loopback"), 0);
+    for place in ["loopback", "no loopback"] {
+        meetings.0.insert(format!("own end 8 refused by 4, on the wire, {place}"), 0);
+        for wire in ["on the wire", "none on the wire"] {
+            meetings.0.insert(format!("own end 9 refused by 5, {wire}, {place}"), 0);
+        }
     }
+    meetings.0.insert("own end 3 refused by 4, on the wire, loopback".into(), 0);
+    expect_alone(&mut |text| _ = meetings.0.insert(text, 0));
+}
+
+/// TEC and REC around 128 with a frame on the wire, and the code of own end 8.
+const NEAR_PASSIVE: [([u16; 2], u8); 9] = [
+    ([128, 0], 0),
+    ([127, 0], 4),
+    ([120, 0], 4),
+    ([129, 0], 0),
+    ([255, 0], 0),
+    ([0, 128], 0),
+    ([127, 128], 0),
+    ([128, 127], 0),
+    ([127, 127], 4),
+];
+
+fn expect_alone(expect: &mut impl FnMut(String)) {
+    for by in ["TEC alone", "REC alone", "both"] {
+        expect(format!("own end 8 accepted by {by}"));
+    }
+    for reason in ["EPVF", "loopback", "silent loopback", "none on the wire"] {
+        expect(format!("own end 8 refused only by {reason}"));
+    }
+    for ([tec, rec], code) in NEAR_PASSIVE {
+        expect(format!("own end 8 with TEC {tec}, REC {rec}, code {code}"));
+    }
+    for set in [false, true] {
+        expect(format!("own end 3, EPVF {set}"));
+        [false, true].iter().for_each(|erri| expect(format!("own end 8, LECIE {set}, ERRI {erri} before")));
+        (0..=2).for_each(|others| expect(format!("own end 8, {others} more pending, TXFP {set}")));
+    }
+    (0..=7).for_each(|lec| expect(format!("own end 8, LEC {lec} before")));
+    (0..=3).for_each(|requests| expect(format!("own end 8 with requests {requests:02b}")));
+    ["none", "lost", "an error"].iter().for_each(|earlier| expect(format!("own end 8, the try before: {earlier}")));
 }
 
 /// Every record written and without space, and too wide where it has a narrow field.

@@ -48,8 +48,8 @@ fn step_of(tag: u32, [a, b, c, d]: [u32; 4]) -> Option<WideStep> {
 }
 
 /// Values around the limits of the fields and of the controller's rules.
-const NARROW: [u32; 17] =
-    [0, 1, 2, 7, 8, 15, 16, 254, 255, 256, 257, 65_534, 65_535, 65_536, 65_537, 0x0100_0000, u32::MAX];
+const NARROW: [u32; 18] =
+    [0, 1, 2, 7, 8, 9, 15, 16, 254, 255, 256, 257, 65_534, 65_535, 65_536, 65_537, 0x0100_0000, u32::MAX];
 const WORDS: [u32; 3] = [0, 0x0102_0304, u32::MAX];
 const UNNEEDED: u32 = u32::MAX;
 

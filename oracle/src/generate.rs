@@ -244,7 +244,9 @@ impl Generator {
         let rng = &mut self.rng;
         let offset = match step {
             Step::Write(offset, _) if rng.percent(50) => rng.pick(&[offset]),
-            Step::Write(at::MCR, _) | Step::Idle | Step::Activity => rng.pick(&[at::MSR, at::MSR, at::MCR, at::ESR, at::TSR]),
+            Step::Write(at::MCR, _) | Step::Idle | Step::Activity => {
+                rng.pick(&[at::MSR, at::MSR, at::MCR, at::ESR, at::TSR])
+            }
             Step::Start | Step::OwnEnd(_) => {
                 rng.pick(&[at::TSR, at::TSR, at::ESR, at::MSR, mailbox, output, at::status(fifo)])
             }
@@ -523,6 +525,20 @@ impl Generator {
         }
     }
 
+    /// 16-bit lists of two or three identifiers in all, so that both FIFOs have
+    /// a match and the lower number decides.
+    fn configure_rivals(&mut self) {
+        self.shrink_pool();
+        let assignment = self.rng.word();
+        self.write(at::FMR, 1);
+        self.write(at::FM1R, FILTER_WORD);
+        self.write(at::FS1R, 0);
+        self.write(at::FFA1R, assignment);
+        (0..BANKS).for_each(|bank| self.set_bank(bank, false, true));
+        self.write(at::FA1R, FILTER_WORD);
+        self.write(at::FMR, 0);
+    }
+
     /// FMR's fixed bits written at random have no effect.
     fn bench_finit_word(&self, finit: bool) -> u32 {
         let noise = (self.left as u32).wrapping_mul(0x9E37_79B1) & !1;
@@ -641,10 +657,12 @@ impl Generator {
     }
 
     fn own_result(&mut self) -> u8 {
-        match self.rng.below(10) {
+        match self.rng.below(12) {
             0..=4 => 0,
             5..=6 => 7,
-            7 => self.rng.within(8, 255) as u8,
+            7 => 8,
+            8 => 9,
+            9 => self.rng.within(10, 255) as u8,
             _ => self.rng.within(1, 6) as u8,
         }
     }
@@ -705,7 +723,7 @@ impl Generator {
         if self.rng.percent(40) {
             self.shuffle_options(mcr::NART);
         }
-        let result = self.rng.below(8) as u8;
+        let result = self.rng.below(9) as u8;
         self.step(Step::OwnEnd(result));
         self.read(at::TSR);
     }
@@ -781,7 +799,10 @@ impl Generator {
         self.leave_loopback();
         self.go_on_the_bus();
         let finit_stays = self.rng.percent(8);
-        self.configure_filters(finit_stays);
+        match self.rng.percent(10) {
+            true => self.configure_rivals(),
+            false => self.configure_filters(finit_stays),
+        }
         for _ in 0..self.rng.within(6, 30) {
             match self.rng.below(20) {
                 0..=1 => (0..4).for_each(|_| self.try_filter_writes()),
@@ -853,13 +874,18 @@ impl Generator {
 impl Generator {
     /// One own frame from request to its end.
     fn own_frame(&mut self, result: u8) {
+        self.put_on_wire();
+        self.step(Step::OwnEnd(result));
+    }
+
+    /// A start, and a request before it where none waits.
+    fn put_on_wire(&mut self) {
         if !self.any_pending() && !self.bench.on_wire() {
             self.quick_request();
         }
         if !self.bench.on_wire() {
             self.emit(Step::Start);
         }
-        self.step(Step::OwnEnd(result));
     }
 
     fn error_code(&mut self) -> u8 {
@@ -919,9 +945,172 @@ impl Generator {
         if self.rng.percent(30) {
             self.same_code_again();
         }
+        match self.rng.below(4) {
+            0 => self.lone_node(),
+            1..=2 => self.alone_part(),
+            _ => {}
+        }
         for _ in 0..self.rng.within(10, 40) {
             self.error_step();
         }
+    }
+
+    /// A node that is alone on the bus: 3 while it is error active, 8 while it
+    /// is error passive, until somebody acknowledges.
+    fn lone_node(&mut self) {
+        self.open_reception();
+        self.set_options(mcr::NART, 0);
+        let mut while_passive = self.rng.within(1, 12);
+        for _ in 0..40 {
+            let result = self.unheard_result();
+            self.own_frame(result);
+            while_passive -= (result == 8) as u64;
+            if while_passive == 0 || self.done() {
+                break;
+            }
+        }
+        for _ in 0..self.rng.within(1, 3) {
+            self.own_frame(0);
+            self.read(at::ESR);
+        }
+        let result = self.unheard_result();
+        self.own_frame(result);
+    }
+
+    /// What a node finds that nobody hears.
+    fn unheard_result(&self) -> u8 {
+        if self.bench.is_error_passive() {
+            8
+        } else {
+            3
+        }
+    }
+
+    /// Error passive or nearly so, by either counter; then own ends 8 and what
+    /// is near them.
+    fn alone_part(&mut self) {
+        let near = [
+            (128, 0),
+            (128, 0),
+            (127, 0),
+            (120, 0),
+            (129, 0),
+            (247, 0),
+            (248, 0),
+            (0, 128),
+            (0, 128),
+            (8, 127),
+            (7, 129),
+            (96, 255),
+            (127, 128),
+            (127, 127),
+            (128, 127),
+            (136, 135),
+        ];
+        let (tec, rec) = self.rng.pick(&near);
+        self.observing = 20;
+        self.drive_counters(tec, rec);
+        self.observing = 60;
+        for _ in 0..self.rng.within(4, 12) {
+            self.alone_step();
+        }
+    }
+
+    /// TEC and REC at these values.
+    fn drive_counters(&mut self, tec: u16, rec: u16) {
+        if self.bench.tec() > tec + 8 || self.bench.rec() > rec {
+            self.emit(Step::Reset);
+            self.set_enables();
+        }
+        self.open_reception();
+        self.set_options(mcr::NART, 0);
+        self.drive_tec(tec);
+        self.drive_rec(rec);
+        self.read(at::ESR);
+    }
+
+    /// Own end 8 mostly; 3 raises TEC and 9 is out of range, whatever the state.
+    fn alone_result(&mut self) -> u8 {
+        self.rng.pick(&[8, 8, 8, 8, 8, 8, 3, 9])
+    }
+
+    fn alone_step(&mut self) {
+        let result = self.alone_result();
+        match self.rng.below(12) {
+            0..=2 => self.own_frame(result),
+            3 => {
+                self.free_the_wire();
+                self.step(Step::OwnEnd(result));
+            }
+            4 => {
+                self.set_options(mcr::NART, mcr::NART);
+                self.own_frame(result);
+                self.set_options(mcr::NART, 0);
+            }
+            5 => self.alone_after_abort(result),
+            6..=7 => self.alone_with_errors_enabled(result),
+            8 => self.alone_in_order(result),
+            9 => self.alone_with_mode_request(result),
+            10 => self.own_frame(7),
+            _ => {
+                let code = self.rng.pick(&[0x70, 0]);
+                self.write(at::ESR, code);
+                self.own_frame(result);
+            }
+        }
+        let offset = self.rng.pick(&[at::ESR, at::TSR]);
+        self.read(offset);
+    }
+
+    /// The abort of the frame on the wire is remembered up to its end.
+    fn alone_after_abort(&mut self, result: u8) {
+        self.put_on_wire();
+        if let Some(x) = self.bench.transmitter().on_wire() {
+            self.write(at::TSR, 0x80 << (8 * x));
+            if self.rng.percent(30) {
+                self.shuffle_options(mcr::NART);
+            }
+        }
+        self.step(Step::OwnEnd(result));
+        self.read(at::TSR);
+        self.set_options(mcr::NART, 0);
+    }
+
+    /// With ERRI clear before; LECIE alone shows whether the code sets it.
+    fn alone_with_errors_enabled(&mut self, result: u8) {
+        let enables = self.rng.pick(&[ier::LECIE, ier::LECIE | ier::ERRIE, 0x0700 | ier::ERRIE, 0]);
+        self.write(at::IER, enables);
+        self.put_on_wire();
+        if self.rng.percent(80) {
+            self.emit(Step::Write(at::MSR, 4));
+        }
+        self.step(Step::OwnEnd(result));
+        self.read(at::MSR);
+        self.read(at::ESR);
+    }
+
+    /// The order of requests before and after a failed try.
+    fn alone_in_order(&mut self, result: u8) {
+        self.shuffle_options(mcr::TXFP);
+        self.free_the_wire();
+        for _ in 0..self.rng.within(1, 3) {
+            self.quick_request();
+        }
+        self.emit(Step::Start);
+        self.read(at::TSR);
+        self.emit(Step::OwnEnd(result));
+        self.read(at::TSR);
+        self.step(Step::Start);
+    }
+
+    /// The mode that is asked for follows when the wire is free.
+    fn alone_with_mode_request(&mut self, result: u8) {
+        self.put_on_wire();
+        let requests = self.rng.within(1, 3) as u32;
+        self.request_mode(requests);
+        self.step(Step::OwnEnd(result));
+        self.read(at::MSR);
+        self.go_normal();
     }
 
     /// The same code twice, ERRI cleared between.
@@ -944,7 +1133,7 @@ impl Generator {
     }
 
     fn error_step(&mut self) {
-        match self.rng.below(18) {
+        match self.rng.below(20) {
             0..=2 => {
                 let code = self.error_code();
                 self.own_frame(code);
@@ -969,6 +1158,7 @@ impl Generator {
                 self.write(at::ESR, word);
             }
             16 => self.own_frame(7),
+            17..=18 => self.alone_step(),
             _ => {
                 let result = self.own_result();
                 self.step(Step::OwnEnd(result));
@@ -1266,8 +1456,23 @@ impl Generator {
         }
         self.shuffle_options(mcr::RFLM | mcr::TTCM | mcr::TXFP);
         self.go_normal();
+        if self.bench.is_loopback() && self.rng.percent(30) {
+            self.unheard_in_loopback();
+        }
         for _ in 0..self.rng.within(10, 40) {
             self.loopback_step();
+        }
+    }
+
+    /// Nobody has to acknowledge here, error passive or not.
+    fn unheard_in_loopback(&mut self) {
+        self.observing = 20;
+        self.drive_tec(self.bench.tec().max(128));
+        self.observing = 60;
+        for _ in 0..self.rng.within(1, 4) {
+            let result = self.alone_result();
+            self.put_on_wire();
+            self.step(Step::OwnEnd(result));
         }
     }
 
@@ -1288,7 +1493,7 @@ impl Generator {
                 self.step(Step::Start);
                 let count = self.rng.within(1, 40000) as u16;
                 self.emit(Step::BitTimes(count));
-                let result = self.rng.pick(&[0, 0, 0, 0, 3, 7, 1]);
+                let result = self.rng.pick(&[0, 0, 0, 0, 3, 7, 1, 8, 9]);
                 self.step(Step::OwnEnd(result));
                 self.read(at::ESR);
             }

@@ -310,6 +310,34 @@ impl Transmitter {
         }
     }
 
+    /// The frame on the wire has failed by own end 8: as by an error.
+    pub fn end_alone(&mut self, x: usize, single_try: bool) {
+        if made(Mistake::AloneIsGood) {
+            return self.end_well(x);
+        }
+        let reason = match () {
+            () if made(Mistake::AloneSetsAlst) => tsr::ALST,
+            () if made(Mistake::AloneWithoutTerr) => 0,
+            () => tsr::TERR,
+        };
+        let old = self.mailboxes[x];
+        if made(Mistake::AloneForgetsAbort) {
+            self.mailboxes[x].clear(tsr::ABRQ);
+        }
+        let ends = single_try && !made(Mistake::AloneIgnoresNart) || made(Mistake::AloneEndsRequest);
+        self.end_failed(x, reason, ends);
+        if made(Mistake::AloneKeepsAlst) {
+            self.mailboxes[x].set(old.status & tsr::ALST);
+        }
+        if made(Mistake::AloneGoesLast) {
+            self.requests += 1;
+            self.mailboxes[x].request = self.requests;
+        }
+        if made(Mistake::AloneStaysOnWire) && !self.mailboxes[x].is_empty() {
+            self.on_wire = Some(x);
+        }
+    }
+
     /// A write to TSR: the clears, then the aborts.
     pub fn write_status(&mut self, word: u32) {
         for x in 0..MAILBOXES {

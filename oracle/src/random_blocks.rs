@@ -18,9 +18,12 @@ const fn shape(mode: u32, bus_off: bool, sending: bool) -> Shape {
     Shape { mode, bus_off, sending }
 }
 
+/// A frame is on the wire.
+pub const SENDING: Shape = shape(NORMAL, false, true);
+
 pub const SHAPES: [Shape; 7] = [
     shape(NORMAL, false, false),
-    shape(NORMAL, false, true),
+    SENDING,
     shape(NORMAL, true, false),
     shape(INITIALIZATION, false, false),
     shape(INITIALIZATION, true, false),

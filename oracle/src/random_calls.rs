@@ -6,7 +6,7 @@ use crate::call_tally::Tally;
 use crate::calls::{self, BOARD, CODE_BLOCK};
 use crate::fields::registers;
 use crate::generate::{generate, Kind, PARTS};
-use crate::random_blocks::{beside, within, SHAPES};
+use crate::random_blocks::{beside, within, SENDING, SHAPES};
 use crate::registers::identifier;
 use crate::rng::Rng;
 use crate::script::decode;
@@ -168,6 +168,9 @@ impl Run<'_> {
                 self.tally.note_rule(rule);
             }
         }
+        if let (WideStep::OwnEnd(result), false) = (step, code == CODE_BLOCK) {
+            self.tally.note_end(&block::read(&self.before).0, result, code);
+        }
     }
 
     /// A call that counts. What it leaves lies within the ranges.
@@ -313,6 +316,11 @@ impl Run<'_> {
             self.taken(&mut block)?;
             self.go_on(&mut block, 8)?;
         }
+        for _ in 0..8 {
+            let mut block = block::written(within(&mut self.rng, SENDING));
+            self.taken(&mut block)?;
+            self.own_ends(&block)?;
+        }
         for _ in 0..64 {
             let mut block = block::written(beside(&mut self.rng, shape));
             self.changed(&mut block, 4)?;
@@ -320,6 +328,14 @@ impl Run<'_> {
         let block = block::written(within(&mut self.rng, shape));
         let small = if number % ALL_SMALL_VALUES == 0 { self.small.clone() } else { vec![false; BLOCK_LENGTH] };
         self.change_bytes(&block, |place| small[place] || number % ALL_VALUES == 0)
+    }
+
+    /// Every result of an own end and the first out of range, on copies.
+    fn own_ends(&mut self, block: &[u8]) -> Same {
+        for result in 0..=9 {
+            self.random_call(BOARD, &mut block.to_vec(), WideStep::OwnEnd(result))?;
+        }
+        Ok(())
     }
 
     /// A block within the ranges.
@@ -355,7 +371,7 @@ impl Run<'_> {
             8 => WideStep::BitTimes(self.rng.within(1, 65_535) as u32),
             9 => WideStep::Activity,
             10..=11 => WideStep::Start,
-            12 => WideStep::OwnEnd(self.rng.below(8) as u32),
+            12 => WideStep::OwnEnd(self.rng.below(9) as u32),
             13..=14 => self.frame(),
             _ if self.rng.percent(20) => WideStep::Reset,
             _ => WideStep::ReceiveError { code: self.rng.within(1, 6) as u32, step: self.rng.pick(&[1, 8]) },

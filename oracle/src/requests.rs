@@ -2,6 +2,7 @@
 //! it. It sees steps, codes and a start's word; never the controller's state.
 
 use crate::controller::Answer;
+use crate::probe::{made, Mistake};
 use crate::registers::{mcr, tsr, MailboxWord, Register, MAILBOXES};
 use crate::script::Step;
 
@@ -116,7 +117,14 @@ impl Requests {
             Some(x) => x,
             None => return Err("an own end with nothing on the wire".into()),
         };
-        if result != 0 && !self.nart && !self.abort_mark[x] {
+        let alone = result == 8;
+        if made(Mistake::BookLeaves8OnWire) && alone {
+            self.on_wire = Some(x);
+            return Ok(());
+        }
+        let good = result == 0 || made(Mistake::BookTakes8AsGood) && alone;
+        let ends = (self.nart || self.abort_mark[x]) && !(made(Mistake::BookNeverEndsBy8) && alone);
+        if !good && !ends {
             return Ok(());
         }
         self.end(x);
@@ -126,7 +134,7 @@ impl Requests {
                 None => continue,
             };
             request.others_ended_on_wire += 1;
-            request.frames_ended_well += (result == 0) as u32;
+            request.frames_ended_well += good as u32;
             request.check(other)?;
         }
         Ok(())

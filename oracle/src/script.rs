@@ -230,6 +230,7 @@ impl Step {
             Step::Start => "start".into(),
             Step::OwnEnd(0) => "own end, good".into(),
             Step::OwnEnd(7) => "own end, arbitration lost".into(),
+            Step::OwnEnd(8) => "own end, no acknowledgment, alone and error passive".into(),
             Step::OwnEnd(result) => format!("own end, result {result}"),
             Step::Frame(frame) => frame_in_words(frame),
             Step::ReceiveError { code, step } => format!("receive error {code}, step {step}"),

@@ -1,8 +1,8 @@
 //! Shows for each wrong variant a script on which its replies differ from
-//! the right ones, or how many filters it says that a search compares, or
-//! another answer of the writer, the reply reader or the lesson reader, or
-//! other bytes, another fault or another text of a lesson, or a call on a block
-//! that it answers otherwise.
+//! the right ones, or its request book finds a violation, or how many filters
+//! it says that a search compares, or another answer of the writer, the reply
+//! reader or the lesson reader, or other bytes, another fault or another text
+//! of a lesson, or a call on a block that it answers otherwise.
 
 use crate::bad_lines::{bad_lines, edge_texts, repeat_of};
 use crate::broken_replies::broken_replies;
@@ -19,7 +19,8 @@ use crate::openings::openings;
 use crate::probe::{current, switch_to, MISTAKES};
 use crate::random_calls::{self, Library};
 use crate::replies::read_reply;
-use crate::script::{step, Progress, Unreadable, CODE_SHORT, REPLY_LENGTH};
+use crate::requests::Requests;
+use crate::script::{decode, step, Progress, Unreadable, CODE_SHORT, REPLY_LENGTH};
 use crate::text_writer;
 use crate::writer::WideStep;
 
@@ -32,6 +33,7 @@ const LESSON_LINES: u64 = 2000;
 const BAD_LINES: u64 = 1000;
 const WORDED_RECORDS: u64 = 3000;
 const RANDOM_CALLS: u64 = 20_000;
+const TSR: u16 = 0x08;
 
 /// Something that a wrong variant may answer otherwise.
 trait Case {
@@ -110,6 +112,27 @@ fn searches(script: &[u8]) -> Vec<(u64, usize)> {
     let mut searches = Vec::new();
     comparisons::replay(script, |search| searches.push((search.record, search.compared)));
     searches
+}
+
+/// The record of the first violation that the request book finds, if any.
+fn violations(script: &[u8]) -> Vec<u64> {
+    let mut controller = Controller::at_reset();
+    let mut book = Requests::default();
+    let (mut record, mut rest) = (0, script);
+    while !rest.is_empty() {
+        let (step, length) = match decode(rest) {
+            Ok(read) => read,
+            Err(_) => break,
+        };
+        let answer = step.apply(&mut controller);
+        let status = controller.clone().read(TSR).word;
+        if book.feed(record, step, answer).and_then(|()| book.check_tme(status)).is_err() {
+            return vec![record];
+        }
+        record += 1;
+        rest = &rest[length..];
+    }
+    Vec::new()
 }
 
 /// The writer's answers to requests.
@@ -289,6 +312,7 @@ fn other_cases(seeds: u64, records: u64) -> Vec<Box<dyn Case>> {
     cases.extend((0..BROKEN_REPLIES).map(reply_case));
     cases.extend(openings().into_iter().enumerate().flat_map(|(index, lesson)| lesson_cases(index, lesson)));
     cases.extend(text_cases());
+    cases.extend((1..=seeds).map(|seed| book_case(seed, records)));
     cases.push(Box::new(CallsCase { seed: 1 }));
     cases.extend(special_cases(seeds, records));
     cases.extend(count_cases(seeds, records));
@@ -304,6 +328,12 @@ fn special_cases(seeds: u64, records: u64) -> Vec<Box<dyn Case>> {
     }
     cases.push(generated("requests", Kind::Requests, 1, REQUEST_RECORDS));
     cases.into_iter().map(|case| Box::new(case) as Box<dyn Case>).collect()
+}
+
+fn book_case(seed: u64, records: u64) -> Box<dyn Case> {
+    let numbered = |_, record: &u64| format!("record {record}");
+    let script = generate(seed, records, Kind::Errors);
+    Box::new(ListCase::new(format!("errors seed {seed} checked"), script, violations, numbered))
 }
 
 fn writer_case() -> Box<dyn Case> {

@@ -1,6 +1,6 @@
 //! Document 01's numbers on the wall, its whole script, and some of the
-//! settled readings, each as a short history of steps; then the writer and the
-//! readers of Q-1.
+//! settled readings, each as a short history of steps, own end 8 of Q-4 among
+//! them; then the writer and the readers of Q-1.
 
 use crate::broken_replies::broken_replies;
 use crate::comparisons;
@@ -13,6 +13,7 @@ use crate::lesson;
 use crate::malformed::{broken_script, whole_record};
 use crate::openings::openings;
 use crate::replies::{self, read_reply};
+use crate::requests::Requests;
 use crate::rng::Rng;
 use crate::script::{decode, step, Step, REPLY_LENGTH};
 use crate::writer::{write_record, WideStep, Written, RESET_RECORD};
@@ -234,6 +235,224 @@ fn bus_off_and_initialization_in_one_step() {
     write(&mut controller, MCR, 0);
     idles(&mut controller, 129);
     assert!(!controller.is_bus_off());
+}
+
+/// On the bus with these counters.
+fn with_counters(tec: u16, rec: u16) -> Controller {
+    let mut controller = with_tec(0, tec);
+    while controller.rec() < rec {
+        let step = if controller.rec() + 8 <= rec { 8 } else { 1 };
+        assert_eq!(controller.receive_error(2, step).code, 0);
+    }
+    controller
+}
+
+/// A request of mailbox 0 goes on the wire.
+fn send(controller: &mut Controller) {
+    if word(controller, TI0) & 1 == 0 {
+        write(controller, TI0, 1);
+    }
+    assert_eq!(controller.start(), Answer { lines: controller.lines(), ..Answer::default() });
+}
+
+/// An own end that is refused by this code and changes nothing.
+fn refused(controller: &mut Controller, result: u8, code: u8) {
+    let before = controller.clone();
+    assert_eq!(controller.own_end(result), Answer { code, lines: before.lines(), word: 0 });
+    assert_eq!(*controller, before);
+}
+
+#[test]
+fn a_lone_node_stays_error_passive() {
+    let mut controller = normal(0);
+    for errors in 1..=16 {
+        send(&mut controller);
+        refused(&mut controller, 8, 4);
+        assert_eq!(controller.own_end(3).code, 0);
+        assert_eq!(controller.tec(), 8 * errors);
+    }
+    assert_eq!(word(&mut controller, ESR), 0x0080_0033);
+    for _ in 0..100 {
+        own_frame(&mut controller, 8);
+        assert_eq!(word(&mut controller, ESR), 0x0080_0033);
+        assert_eq!(word(&mut controller, TSR), 0x1900_0008);
+        assert_eq!(word(&mut controller, TI0), 1);
+    }
+    own_frame(&mut controller, 0);
+    assert_eq!(word(&mut controller, ESR), 0x007F_0001);
+    assert_eq!(word(&mut controller, TSR), 0x1C00_0003);
+    send(&mut controller);
+    refused(&mut controller, 8, 4);
+    assert_eq!(controller.own_end(3).code, 0);
+    own_frame(&mut controller, 8);
+    assert_eq!(word(&mut controller, ESR), 0x0087_0033);
+}
+
+#[test]
+fn error_3_raises_tec_while_error_passive_too() {
+    let mut controller = normal(0);
+    (0..31).for_each(|_| own_frame(&mut controller, 3));
+    assert_eq!(word(&mut controller, ESR), 0x00F8_0033);
+    own_frame(&mut controller, 8);
+    assert_eq!(word(&mut controller, ESR), 0x00F8_0033);
+    own_frame(&mut controller, 3);
+    assert_eq!(word(&mut controller, ESR), 0x0000_0037);
+    assert!(controller.is_bus_off());
+}
+
+#[test]
+fn rec_alone_makes_own_end_8_possible() {
+    let mut controller = normal(0);
+    for _ in 0..15 {
+        assert_eq!(controller.receive_error(6, 8).code, 0);
+    }
+    send(&mut controller);
+    refused(&mut controller, 8, 4);
+    assert_eq!(controller.own_end(7).code, 0);
+    assert_eq!(controller.receive_error(6, 8).code, 0);
+    assert_eq!(word(&mut controller, ESR), 0x8000_0063);
+    for _ in 0..3 {
+        own_frame(&mut controller, 8);
+        assert_eq!(word(&mut controller, ESR), 0x8000_0033);
+    }
+}
+
+#[test]
+fn own_end_8_goes_by_epvf() {
+    let accepted = [(128, 0), (129, 0), (247, 0), (0, 128), (0, 129), (127, 128), (128, 127), (7, 255), (200, 200)];
+    let error_active = [(0, 0), (96, 0), (120, 0), (127, 0), (0, 96), (0, 127), (127, 127), (120, 127)];
+    for (tec, rec) in accepted {
+        let mut controller = with_counters(tec, rec);
+        send(&mut controller);
+        assert_eq!(controller.own_end(8).code, 0, "TEC {tec}, REC {rec}");
+        assert_eq!((controller.tec(), controller.rec()), (tec, rec));
+    }
+    for (tec, rec) in error_active {
+        let mut controller = with_counters(tec, rec);
+        send(&mut controller);
+        refused(&mut controller, 8, 4);
+    }
+    let mut controller = with_counters(247, 0);
+    own_frame(&mut controller, 3);
+    own_frame(&mut controller, 8);
+    assert_eq!(word(&mut controller, ESR), 0x00FF_0033);
+}
+
+#[test]
+fn own_end_8_needs_a_frame_on_the_wire_and_no_loopback() {
+    for (silent, rec) in [(0, 0), (1 << 31, 0), (0, 200)] {
+        let mut controller = with_counters(128, rec);
+        refused(&mut controller, 8, 4);
+        refused(&mut controller, 9, 5);
+        write(&mut controller, MCR, 1);
+        write(&mut controller, BTR, 1 << 30 | silent);
+        write(&mut controller, MCR, 0);
+        idles(&mut controller, 1);
+        refused(&mut controller, 8, 4);
+        refused(&mut controller, 9, 5);
+        send(&mut controller);
+        refused(&mut controller, 8, 4);
+        refused(&mut controller, 3, 4);
+        refused(&mut controller, 9, 5);
+    }
+}
+
+#[test]
+fn own_ends_above_8_are_out_of_range() {
+    for result in 9..=255 {
+        for tec in [0, 128] {
+            let mut controller = with_counters(tec, 0);
+            refused(&mut controller, result, 5);
+            send(&mut controller);
+            refused(&mut controller, result, 5);
+        }
+    }
+}
+
+#[test]
+fn own_end_8_is_a_failed_try() {
+    let mut controller = with_tec(0x10, 128);
+    own_frame(&mut controller, 8);
+    assert_eq!(word(&mut controller, TSR), 0x1C00_0009, "NART ends the request");
+    assert_eq!(word(&mut controller, TI0), 0);
+    let mut controller = with_tec(0, 128);
+    send(&mut controller);
+    write(&mut controller, TSR, 0x80);
+    assert_eq!(controller.own_end(8).code, 0);
+    assert_eq!(word(&mut controller, TSR), 0x1C00_0009, "and so does a remembered abort");
+    own_frame(&mut controller, 7);
+    assert_eq!(word(&mut controller, TSR), 0x1900_0004);
+    own_frame(&mut controller, 8);
+    assert_eq!(word(&mut controller, TSR), 0x1900_0008, "TERR in place of ALST");
+}
+
+#[test]
+fn own_end_8_keeps_the_place_of_the_request() {
+    let mut controller = with_tec(0x04, 128);
+    write(&mut controller, TSR, 0x80);
+    for x in [1, 0, 2] {
+        write(&mut controller, TI0 + 0x10 * x, 1);
+    }
+    for _ in 0..3 {
+        assert_eq!(controller.start().word, 1);
+        assert_eq!(controller.own_end(8).code, 0);
+        assert_eq!(word(&mut controller, TSR), 0x8200_0800);
+    }
+}
+
+#[test]
+fn own_end_8_sets_erri_by_lecie_only() {
+    for (enables, lines, status) in [(0x8800, 8, 0xC04), (0x800, 0, 0xC04), (0x8700, 0, 0xC00), (0, 0, 0xC00)] {
+        for code in [1, 3] {
+            let mut controller = with_tec(0, 120);
+            own_frame(&mut controller, code);
+            write(&mut controller, MSR, 4);
+            write(&mut controller, IER, enables);
+            send(&mut controller);
+            assert_eq!(controller.own_end(8), Answer { code: 0, lines, word: 0 });
+            assert_eq!(word(&mut controller, MSR), status);
+        }
+    }
+}
+
+#[test]
+fn own_end_8_leaves_3_in_lec() {
+    let mut controller = with_tec(0, 128);
+    own_frame(&mut controller, 0);
+    own_frame(&mut controller, 6);
+    assert_eq!(word(&mut controller, ESR), 0x0087_0063);
+    own_frame(&mut controller, 8);
+    assert_eq!(word(&mut controller, ESR), 0x0087_0033);
+    write(&mut controller, ESR, 0x70);
+    own_frame(&mut controller, 8);
+    assert_eq!(word(&mut controller, ESR), 0x0087_0033);
+}
+
+#[test]
+fn a_mode_follows_own_end_8() {
+    for (requests, mode) in [(1, Mode::Initialization), (2, Mode::Sleep), (3, Mode::Normal)] {
+        let mut controller = with_tec(0, 128);
+        send(&mut controller);
+        write(&mut controller, MCR, requests);
+        assert_eq!(controller.mode(), Mode::Normal);
+        assert_eq!(controller.own_end(8).code, 0);
+        assert_eq!(controller.mode(), mode);
+    }
+}
+
+#[test]
+fn the_request_book_takes_8_as_a_failure() {
+    const MAILBOX_0_REQUESTED: u32 = 0x1800_0000;
+    const ALL_EMPTY: u32 = 0x1C00_0000;
+    let abort = Step::Write(TSR, 0x80);
+    for (more, ended) in [(Step::Idle, 0), (Step::Write(MCR, 0x10), 1), (abort, 1)] {
+        let mut book = Requests::default();
+        for step in [Step::Write(TI0, 1), Step::Start, more, Step::OwnEnd(8)] {
+            assert_eq!(book.feed(0, step, Answer::default()), Ok(()));
+        }
+        let status = if ended == 0 { MAILBOX_0_REQUESTED } else { ALL_EMPTY };
+        assert_eq!((book.ended, book.check_tme(status)), (ended, Ok(())));
+    }
 }
 
 #[test]
@@ -732,6 +951,8 @@ fn what_only_the_controller_refuses_is_written() {
         (WideStep::Read(0x401), 1),
         (WideStep::Write(65_535, 0), 1),
         (WideStep::BitTimes(0), 5),
+        (WideStep::OwnEnd(8), 4),
+        (WideStep::OwnEnd(9), 5),
         (WideStep::OwnEnd(200), 5),
         (wide_frame(1, 8), 5),
         (wide_frame(8, 8), 5),
@@ -780,7 +1001,7 @@ fn number_at(request: &[u8], place: usize) -> u32 {
 #[test]
 fn requests_are_answered() {
     let systematic = encode::requests(1, 0).len() / REQUEST_LENGTH;
-    assert_eq!(systematic, 9366);
+    assert_eq!(systematic, 10_290);
     assert_eq!(encode::requests(1, 10), encode::requests(2, 0));
     let requests = encode::requests(3, 20_000);
     assert_eq!(requests.len(), 20_000 * REQUEST_LENGTH);

@@ -10,7 +10,7 @@ use crate::script::Step;
 use crate::words::{hex_digits, number, pairs, LineFault, Word, Words};
 
 /// The results of an own end in the order of their numbers.
-pub const RESULTS: [&str; 8] = ["good", "stuff", "form", "ack", "bit1", "bit0", "crc", "lost"];
+pub const RESULTS: [&str; 9] = ["good", "stuff", "form", "ack", "bit1", "bit0", "crc", "lost", "alone"];
 
 const LINES_ALLOWED: &str = "TX, FIFO0, FIFO1 or SCE, each once";
 const VERBS: &str = "reset, read, write, idle, bits, activity, start, end, frame, error, bytes, expect, repeat or done";
@@ -221,22 +221,34 @@ fn read_field(field: &Field, words: &mut Words) -> Result<u32, LineFault> {
 }
 
 fn read_result(words: &mut Words) -> Result<u8, LineFault> {
-    let allowed = "good, lost, stuff, form, ack, bit1, bit0, crc, or a number of 0 to 255";
+    let allowed = "good, lost, stuff, form, ack, bit1, bit0, crc, alone, or a number of 0 to 255";
     let word = words.needed(allowed)?;
-    let named = match () {
-        () if made(Mistake::BitResultsExchanged) => ["good", "stuff", "form", "ack", "bit0", "bit1", "crc", "lost"],
-        () if made(Mistake::LostIsResult1) => ["good", "lost", "stuff", "form", "ack", "bit1", "bit0", "crc"],
-        () => RESULTS,
-    };
-    match named.iter().position(|name| word.is(name)) {
+    match names_of_results().iter().position(|name| word.is(name)) {
+        Some(_) if word.is("alone") && made(Mistake::AloneIsAck) => Ok(3),
         Some(result) => {
             here!();
             Ok(result as u8)
         }
         None => {
-            let limit = if made(Mistake::ResultsUpTo7) { 7 } else { 255 };
+            let limit = match () {
+                () if made(Mistake::ResultsUpTo7) => 7,
+                () if made(Mistake::ResultsUpTo8) => 8,
+                () => 255,
+            };
             number_within(word, allowed, 0, limit).map(|result| result as u8)
         }
+    }
+}
+
+fn names_of_results() -> Vec<&'static str> {
+    let listed = |text: &'static str| text.split(' ').collect();
+    match () {
+        () if made(Mistake::BitResultsExchanged) => listed("good stuff form ack bit0 bit1 crc lost alone"),
+        () if made(Mistake::LostIsResult1) => listed("good lost stuff form ack bit1 bit0 crc alone"),
+        () if made(Mistake::AloneUnknown) => RESULTS[..8].to_vec(),
+        () if made(Mistake::AloneIsResult9) => listed("good stuff form ack bit1 bit0 crc lost . alone"),
+        () if made(Mistake::AloneBeforeLost) => listed("good stuff form ack bit1 bit0 crc alone lost"),
+        () => RESULTS.to_vec(),
     }
 }
 

@@ -35,7 +35,7 @@ fn column(line: &str) -> usize {
 
 #[test]
 fn every_step_gives_its_record() {
-    let cases: [(&str, &[u8]); 23] = [
+    let cases: [(&str, &[u8]); 25] = [
         ("reset", &[1, 0, 0]),
         ("read MCR", &[2, 2, 0, 0, 0]),
         ("read F13R2", &[2, 2, 0, 0xAC, 2]),
@@ -56,6 +56,8 @@ fn every_step_gives_its_record() {
         ("end bit0", &[8, 1, 0, 5]),
         ("end crc", &[8, 1, 0, 6]),
         ("end lost", &[8, 1, 0, 7]),
+        ("end alone", &[8, 1, 0, 8]),
+        ("end 8", &[8, 1, 0, 8]),
         ("end 255", &[8, 1, 0, 255]),
         ("error 255 8", &[10, 2, 0, 255, 8]),
         ("bytes 01 0203 aBcD", &[1, 2, 3, 0xAB, 0xCD]),
@@ -257,6 +259,8 @@ fn columns_of_bad_words() {
         ("bits 0x", 6),
         ("bits 65536", 6),
         ("end well", 5),
+        ("end Alone", 5),
+        ("end alone 8", 11),
         ("end 256", 5),
         ("error 1 256", 9),
         ("error 1 8 1", 11),
@@ -274,6 +278,15 @@ fn columns_of_bad_words() {
     ];
     for (line, at) in cases {
         assert_eq!(column(line), at, "{line:?}");
+    }
+}
+
+#[test]
+fn what_is_allowed_behind_end() {
+    let allowed = "good, lost, stuff, form, ack, bit1, bit0, crc, alone, or a number of 0 to 255";
+    for (line, found) in [("end lone", "\"lone\""), ("end", "the end of the line")] {
+        let fault = read_line(line.as_bytes()).expect_err("a bad line");
+        assert_eq!(fault.message, format!("found {found}; allowed: {allowed}"));
     }
 }
 
@@ -411,7 +424,7 @@ fn limits_of_lines_and_repeats() {
 
 #[test]
 fn records_as_text() {
-    let cases: [(&[u8], &str); 22] = [
+    let cases: [(&[u8], &str); 25] = [
         (&[1, 0, 0], "reset"),
         (&[2, 2, 0, 0, 0], "read MCR"),
         (&[2, 2, 0, 2, 0], "read 0x0002"),
@@ -429,7 +442,10 @@ fn records_as_text() {
         (&[3, 6, 0, 0xB0, 2, 1, 0, 0, 0], "write 0x02B0 0x00000001"),
         (&[5, 2, 0, 0xE8, 3], "bits 1000"),
         (&[8, 1, 0, 7], "end lost"),
-        (&[8, 1, 0, 8], "end 8"),
+        (&[8, 1, 0, 3], "end ack"),
+        (&[8, 1, 0, 8], "end alone"),
+        (&[8, 1, 0, 9], "end 9"),
+        (&[8, 1, 0, 255], "end 255"),
         (&[10, 2, 0, 1, 8], "error 1 8"),
         (&[9, 13, 0, 0, 0, 0x60, 0x24, 2, 0x11, 0xAA, 0, 0, 0, 0, 0, 0], "frame 123#11AA"),
         (&[9, 13, 0, 0x1E, 9, 0, 0x80, 13, 0, 0, 0, 0, 0, 0, 0, 0], "frame 10000123#R8_D"),

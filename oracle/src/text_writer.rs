@@ -65,6 +65,9 @@ fn register(offset: u16) -> String {
 
 fn result_named(result: u8) -> String {
     match RESULTS.get(result as usize) {
+        Some(_) if result == 8 && made(Mistake::TextAloneAsNumber) => result.to_string(),
+        Some(_) if result == 8 && made(Mistake::TextAloneAsAck) => "ack".into(),
+        None if made(Mistake::TextAbove8Alone) => "alone".into(),
         Some(name) => (*name).into(),
         None => result.to_string(),
     }

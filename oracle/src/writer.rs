@@ -204,7 +204,9 @@ fn refused_by_mistake(step: WideStep) -> bool {
             made(Mistake::UnalignedOffsetNotWritten) && offset % 4 != 0
         }
         WideStep::BitTimes(count) => made(Mistake::ZeroBitTimesNotWritten) && count == 0,
-        WideStep::OwnEnd(result) => made(Mistake::ResultAbove7NotWritten) && result > 7,
+        WideStep::OwnEnd(result) => {
+            made(Mistake::ResultAbove7NotWritten) && result > 7 || made(Mistake::ResultAbove8NotWritten) && result > 8
+        }
         WideStep::Frame { identifier, length, .. } => {
             made(Mistake::IdentifierBit0NotWritten) && identifier % 2 != 0
                 || made(Mistake::LengthAbove15NotWritten) && length > 15
