@@ -926,6 +926,7 @@ impl Controller {
             ACKNOWLEDGMENT_ERROR => !loopback || made(Mistake::AckErrorInLoopback),
             LOST => !(loopback && made(Mistake::LostRefusedInLoopback)),
             ALONE => self.can_end_alone(),
+            // Above 8 only a wrong variant comes here.
             _ => result < ALONE,
         }
     }

@@ -134,9 +134,9 @@ mistakes! {
     AloneGoesLast = "a request goes last in request order after own end 8",
     AloneStaysOnWire = "own end 8 leaves the frame on the wire, unless its request ends",
     // The request book.
-    BookTakes8AsGood = "the request book takes own end 8 as a good one",
-    BookNeverEndsBy8 = "in the request book own end 8 ends no request, NART and abort marks or not",
-    BookLeaves8OnWire = "in the request book own end 8 leaves the frame on the wire",
+    ObserverTakes8AsGood = "the request book takes own end 8 as a good one",
+    ObserverNeverEndsBy8 = "in the request book own end 8 ends no request, NART and abort marks or not",
+    ObserverLeaves8OnWire = "in the request book own end 8 leaves the frame on the wire",
     // Loopback.
     LoopbackIgnoresFinit = "loopback stores its frame with FINIT=1",
     FinitTakenAtStart = "loopback goes by FINIT as it was at the start",

@@ -118,12 +118,12 @@ impl Requests {
             None => return Err("an own end with nothing on the wire".into()),
         };
         let alone = result == 8;
-        if made(Mistake::BookLeaves8OnWire) && alone {
+        if made(Mistake::ObserverLeaves8OnWire) && alone {
             self.on_wire = Some(x);
             return Ok(());
         }
-        let good = result == 0 || made(Mistake::BookTakes8AsGood) && alone;
-        let ends = (self.nart || self.abort_mark[x]) && !(made(Mistake::BookNeverEndsBy8) && alone);
+        let good = result == 0 || made(Mistake::ObserverTakes8AsGood) && alone;
+        let ends = (self.nart || self.abort_mark[x]) && !(made(Mistake::ObserverNeverEndsBy8) && alone);
         if !good && !ends {
             return Ok(());
         }

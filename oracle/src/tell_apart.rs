@@ -312,7 +312,7 @@ fn other_cases(seeds: u64, records: u64) -> Vec<Box<dyn Case>> {
     cases.extend((0..BROKEN_REPLIES).map(reply_case));
     cases.extend(openings().into_iter().enumerate().flat_map(|(index, lesson)| lesson_cases(index, lesson)));
     cases.extend(text_cases());
-    cases.extend((1..=seeds).map(|seed| book_case(seed, records)));
+    cases.extend((1..=seeds).map(|seed| observer_case(seed, records)));
     cases.push(Box::new(CallsCase { seed: 1 }));
     cases.extend(special_cases(seeds, records));
     cases.extend(count_cases(seeds, records));
@@ -330,7 +330,7 @@ fn special_cases(seeds: u64, records: u64) -> Vec<Box<dyn Case>> {
     cases.into_iter().map(|case| Box::new(case) as Box<dyn Case>).collect()
 }
 
-fn book_case(seed: u64, records: u64) -> Box<dyn Case> {
+fn observer_case(seed: u64, records: u64) -> Box<dyn Case> {
     let numbered = |_, record: &u64| format!("record {record}");
     let script = generate(seed, records, Kind::Errors);
     Box::new(ListCase::new(format!("errors seed {seed} checked"), script, violations, numbered))

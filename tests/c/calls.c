@@ -392,6 +392,11 @@ static void end_alone(void)
     does(b, call0(START), BXCAN_DONE);
     does(b, call1(OWN_END, BXCAN_END_ALONE), BXCAN_DONE);
     expect(reads(b, 0x008) == 0x1C090000, "RQCP2, TERR2, empty");
+    test("an end alone with a remembered abort");
+    b = after_tries(16);
+    writes(b, 0x008, 0x00800000); /* ABRQ2 */
+    does(b, call1(OWN_END, BXCAN_END_ALONE), BXCAN_DONE);
+    expect(reads(b, 0x008) == 0x1C090000, "RQCP2, TERR2, empty");
 }
 
 /* Events that the state cannot have: in Sleep, in Normal, with a frame on the wire, in loopback. */
@@ -421,7 +426,7 @@ static void wrong_states(void)
     does(b, frame_call(0, 0, 0, 0), BXCAN_WRONG_STATE);
     does(b, call2(RECEIVE_ERROR, 1, 1), BXCAN_WRONG_STATE);
     does(b, call1(OWN_END, 7), BXCAN_DONE);
-    test("an acknowledgment error in loopback");
+    test("no acknowledgment in loopback");
     b = in_normal();
     writes(b, 0x000, 1);
     writes(b, 0x01C, 0x40000000);

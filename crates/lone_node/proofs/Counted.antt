@@ -25,7 +25,7 @@ use Rattle.model.proofs.DoneSteps.{accepted}
 use Rattle.model.proofs.ErrorRules.{start-errors, end-sender, end-errors, esr-written-tec, done-errors}
 use Rattle.model.proofs.ReadFields.{epvf-read, boff-read}
 use Rattle.model.proofs.WriteTargets.{errors-written}
-use Rattle.lone_node.specs.LoneNode.{endsBy, allEndBy, tries, loneResult, StaysOn, ackResult, noReset, GoesOff, LoneNode}
+use Rattle.lone_node.specs.LoneNode.{endsBy, allEndBy, tries, loneResult, StaysOn, ackResult, noHardwareReset, GoesOff, LoneNode}
 
 -- ---- a step
 
@@ -153,18 +153,18 @@ ack-next z s t h k = go (isDone z s) refl
     go true e = let d : Done z s = eqb-true _ _ e in done-tec z s t d ∙ ack-step s (tec z) (of-done z s _ h d) k
     go false e = ap (λ (y : Controller). tec y) (refused z s e .kept) ∙ omega arith
 
-counts : (z : Controller) (l : List steps.Step) → tec z + 8 * tries z l ≤ 255 → Is (allEndBy ackResult z l) → Is (noReset l) → tec (after z l) ≡ tec z + 8 * tries z l
+counts : (z : Controller) (l : List steps.Step) → tec z + 8 * tries z l ≤ 255 → Is (allEndBy ackResult z l) → Is (noHardwareReset l) → tec (after z l) ≡ tec z + 8 * tries z l
 unfolding allEndBy after tries every
 counts z [] t h k = omega arith
 counts z (s ∷ l) t h k =
     let own : Bool = not (isDone z s) || endsBy (ackResult z) s in
     let more : ℕ = one (isDone z s && isOutcome s) in
-    let n : tec (nextOf z s) ≡ tec z + 8 * more = ack-next z s (omega arith) (and-l own (allEndBy ackResult (nextOf z s) l) h) (and-l (not (isHardwareReset s)) (noReset l) k) in
+    let n : tec (nextOf z s) ≡ tec z + 8 * more = ack-next z s (omega arith) (and-l own (allEndBy ackResult (nextOf z s) l) h) (and-l (not (isHardwareReset s)) (noHardwareReset l) k) in
     let r : tec (after (nextOf z s) l) ≡ tec (nextOf z s) + 8 * tries (nextOf z s) l =
-    counts (nextOf z s) l (omega arith) (and-r own (allEndBy ackResult (nextOf z s) l) h) (and-r (not (isHardwareReset s)) (noReset l) k) in
+    counts (nextOf z s) l (omega arith) (and-r own (allEndBy ackResult (nextOf z s) l) h) (and-r (not (isHardwareReset s)) (noHardwareReset l) k) in
     omega arith
 
-goes-off : (z : Controller) (l : List steps.Step) → tec z ≡ 0 → Is (allEndBy ackResult z l) → Is (noReset l) → GoesOff z l
+goes-off : (z : Controller) (l : List steps.Step) → tec z ≡ 0 → Is (allEndBy ackResult z l) → Is (noHardwareReset l) → GoesOff z l
 goes-off z l t h k = record {
   counter = counted;
   on = λ n. let c = counted n in on-up-to (after z l) (omega arith);

@@ -16,7 +16,7 @@ use Rattle.model.specs.declared.Step.the-variants.{Reset, Read, Write, Idle, Bi
 
 -- ---- how the own frames of a list of steps end
 
--- an own end has a result that p takes; any other step
+-- the step is no own end, or one whose result p takes
 abbrev pub endsBy : (ℕ → Bool) → steps.Step → Bool
 endsBy p Reset = true
 endsBy p (Read o) = true
@@ -29,7 +29,7 @@ endsBy p (Outcome r) = p r
 endsBy p (Receive x) = true
 endsBy p (ReceiveError k n) = true
 
--- so has every own end that is accepted, p going by the controller before it
+-- every own end that is accepted has a result that p takes, p going by the controller before it
 unfoldable pub allEndBy : (Controller → ℕ → Bool) → Controller → List steps.Step → Bool
 allEndBy p z [] = true
 allEndBy p z (s ∷ l) = (not (isDone z s) || endsBy (p z) s) && allEndBy p (nextOf z s) l
@@ -45,18 +45,21 @@ tries z (s ∷ l) = one (isDone z s && isOutcome s) + tries (nextOf z s) l
 abbrev pub loneResult : Controller → ℕ → Bool
 loneResult z r = eqb r 0 || (eqb r 3 && not (epvf z)) || (eqb r 8 && epvf z)
 
--- TEC stays at most 135, so that the node never goes bus-off, however often it tries
+-- TEC is at most 135, so that the node isn't bus-off, however often it has tried. After every such list, so after each step of one:
+-- its beginnings are such lists too
 pub record StaysOn (z : Controller) (l : List steps.Step) : Type 0 where
   pub counter : tec (after z l) ≤ 135
   pub on : boff (after z l) ≡ false
 
 -- ---- as 01 has it: result 3 alone
 
+-- every own end is 3
 abbrev pub ackResult : Controller → ℕ → Bool
 ackResult z r = eqb r 3
 
-abbrev pub noReset : List steps.Step → Bool
-noReset l = every (λ (s : steps.Step). not (isHardwareReset s)) l
+-- MCR with bit 15 set may come: it leaves TEC
+abbrev pub noHardwareReset : List steps.Step → Bool
+noHardwareReset l = every (λ (s : steps.Step). not (isHardwareReset s)) l
 
 -- from TEC 0 each of 31 tries adds 8, and with the 32nd the node is bus-off
 pub record GoesOff (z : Controller) (l : List steps.Step) : Type 0 where
@@ -69,7 +72,7 @@ pub record GoesOff (z : Controller) (l : List steps.Step) : Type 0 where
 pub record LoneNode (z : Controller) (l : List steps.Step) : Type 0 where
   -- from TEC at most 127, and from up to 135 too
   pub stays : tec z ≤ 135 → allEndBy loneResult z l ≡ true → StaysOn z l
-  pub goes : tec z ≡ 0 → allEndBy ackResult z l ≡ true → noReset l ≡ true → GoesOff z l
+  pub goes : tec z ≡ 0 → allEndBy ackResult z l ≡ true → noHardwareReset l ≡ true → GoesOff z l
 
 -- ---- from hardware reset: there are such lists, and the numbers are reached
 
@@ -93,29 +96,37 @@ alone n = asked ++ tried 16 3 ++ tried n 8
 abbrev pub heard : ℕ → List steps.Step
 heard n = alone n ++ tried 1 0
 
--- for every n: all is accepted, the node is error passive and on, and its request waits; and once it is heard, its frame is sent, and
--- it is error active again
+-- for every n: the list is one of a lone node, and all of it is accepted. The node is error passive and on, and its request waits; once
+-- it is heard, its frame is sent, and it is error active again
 pub record Alone (n : ℕ) : Type 0 where
+  pub lone : allEndBy loneResult reset (heard n) ≡ true
   pub accepted : allDone (heard n) ≡ true
   pub counter : tec (after reset (alone n)) ≡ 128
   pub passive : epvf (after reset (alone n)) ≡ true
   pub on : boff (after reset (alone n)) ≡ false
-  pub code : lec (after reset (alone n)) ≡ 3
+  pub last : lec (after reset (alone n)) ≡ 3
   pub failed : terr M0 (after reset (alone n)) ≡ true
   pub waits : tme M0 (after reset (alone n)) ≡ false
-  pub less : tec (after reset (heard n)) ≡ 127
+  pub counterHeard : tec (after reset (heard n)) ≡ 127
   pub active : epvf (after reset (heard n)) ≡ false
   pub sent : txok M0 (after reset (heard n)) ≡ true
 
--- heard once, then alone again
+-- heard once, then alone again: from TEC 127 one more try, and TEC is 135
 abbrev pub again : List steps.Step
 again = heard 0 ++ Write 0x180 1 ∷ tried 1 3
 
-pub record Reached : Type 0 where
-  -- TEC 127 and one more try: 135 is reached
+pub record Most : Type 0 where
+  pub lone : allEndBy loneResult reset again ≡ true
   pub accepted : allDone again ≡ true
-  pub most : tec (after reset again) ≡ 135
-  -- by 3 alone: after 31 tries on, after 32 bus-off
-  pub failing : allDone (asked ++ tried 32 3) ≡ true
-  pub last : boff (after reset (asked ++ tried 31 3)) ≡ false
-  pub off : boff (after reset (asked ++ tried 32 3)) ≡ true
+  pub counter : tec (after reset again) ≡ 135
+
+-- by 3 alone, n tries
+abbrev pub unheard : ℕ → List steps.Step
+unheard n = asked ++ tried n 3
+
+-- after 31 tries on, after 32 bus-off
+pub record BusOff : Type 0 where
+  pub acks : allEndBy ackResult reset (unheard 32) ≡ true
+  pub accepted : allDone (unheard 32) ≡ true
+  pub on : boff (after reset (unheard 31)) ≡ false
+  pub off : boff (after reset (unheard 32)) ≡ true

@@ -22,7 +22,7 @@ writtenText o w full =
 unfoldable pub writeText : ℕ → ℕ → Bool → List ℕ
 writeText o w full = begun 3 ++ (registerText o ++ writtenText o w full)
 
--- rows 14 to 21 are the results from 0 to 7
+-- rows 14 to 22 are the results from 0 to 8
 unfoldable pub resultText : ℕ → List ℕ
 resultText r = pick (ltb r 9) (nameText (14 + r) 0) (decimal r)
 
