@@ -476,7 +476,7 @@ fn request_book_of_a_loaded_block() {
             let step = request_step(&mut rng);
             let answer = step.apply(&mut controller);
             book.feed(record, step, answer).unwrap();
-            book.check_tme(controller.clone().read(0x08).word).unwrap();
+            book.check_tme(controller.tsr()).unwrap();
         }
         accepted += book.accepted;
         ended += book.ended;

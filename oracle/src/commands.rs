@@ -329,7 +329,7 @@ fn check() -> Status {
             Ok((step, _)) => step,
             Err(_) => break UNREADABLE,
         };
-        let kept = requests.feed(record, step, progress.answer).and_then(|()| requests.check_tme(tsr_of(&controller)));
+        let kept = requests.feed(record, step, progress.answer).and_then(|()| requests.check_tme(controller.tsr()));
         if let Err(violation) = kept {
             eprintln!("record {} at byte {place} ({}): {violation}", record + 1, step.in_words());
             break DEMAND_VIOLATED;
@@ -363,11 +363,6 @@ fn list_searches(count: impl Fn(Search) -> usize) -> Status {
         }
         None => Ok(READ_TO_THE_END),
     }
-}
-
-/// What a read of TSR would give.
-fn tsr_of(controller: &Controller) -> u32 {
-    controller.clone().read(0x08).word
 }
 
 fn write_generated(seed: &str, records: &str, kind: &str) -> Status {

@@ -267,6 +267,11 @@ impl Controller {
         self.btr & btr::SILM != 0
     }
 
+    /// What a read of TSR would give.
+    pub fn tsr(&self) -> u32 {
+        self.clone().read(0x08).word
+    }
+
     /// EPVF.
     pub fn is_error_passive(&self) -> bool {
         self.error_flags() & esr::EPVF != 0

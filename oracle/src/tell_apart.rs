@@ -33,7 +33,6 @@ const LESSON_LINES: u64 = 2000;
 const BAD_LINES: u64 = 1000;
 const WORDED_RECORDS: u64 = 3000;
 const RANDOM_CALLS: u64 = 20_000;
-const TSR: u16 = 0x08;
 
 /// Something that a wrong variant may answer otherwise.
 trait Case {
@@ -117,7 +116,7 @@ fn searches(script: &[u8]) -> Vec<(u64, usize)> {
 /// The record of the first violation that the request book finds, if any.
 fn violations(script: &[u8]) -> Vec<u64> {
     let mut controller = Controller::at_reset();
-    let mut book = Requests::default();
+    let mut requests = Requests::default();
     let (mut record, mut rest) = (0, script);
     while !rest.is_empty() {
         let (step, length) = match decode(rest) {
@@ -125,8 +124,7 @@ fn violations(script: &[u8]) -> Vec<u64> {
             Err(_) => break,
         };
         let answer = step.apply(&mut controller);
-        let status = controller.clone().read(TSR).word;
-        if book.feed(record, step, answer).and_then(|()| book.check_tme(status)).is_err() {
+        if requests.feed(record, step, answer).and_then(|()| requests.check_tme(controller.tsr())).is_err() {
             return vec![record];
         }
         record += 1;

@@ -1,5 +1,5 @@
 -- Why a step is refused. Document 01: "Refusal numbers", the conditions of codes 1 to 5 one by one.
-use mathlib.Core.Bool.{Bool, true, false, not, _&&_, _||_}
+use mathlib.Core.Bool.{not, _&&_, _||_}
 use mathlib.Core.List.{List, [], _∷_}
 use Prim.Native.Nat.{ℕ, _%_}
 use lib.Dec.{eqb, ltb, leb}

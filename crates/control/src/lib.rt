@@ -126,7 +126,7 @@ fn is_warning(tec: u16, rec: u8) -> bool
     (96 <= tec) | (96 <= rec)
 }
 
-pub fn is_passive(tec: u16, rec: u8) -> bool
+fn is_passive(tec: u16, rec: u8) -> bool
     ensures { λ r. ⌜ r ≡ ltb 127 tec || ltb 127 rec ⌝ }
 {
     (127 < tec) | (127 < rec)
@@ -136,6 +136,12 @@ fn is_off(tec: u16) -> bool
     ensures { λ r. ⌜ r ≡ ltb 255 tec ⌝ }
 {
     255 < tec
+}
+
+pub fn epvf(e: Errors) -> bool
+    ensures { λ r. ⌜ r ≡ control.epvf e ⌝ }
+{
+    is_passive(e.tec, e.rec)
 }
 
 pub fn boff(e: Errors) -> bool

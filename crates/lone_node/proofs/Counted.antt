@@ -1,13 +1,13 @@
 -- TEC through a list of steps, as long as the node is on.
-use mathlib.Core.Bool.{Bool, true, false, not, _&&_, _||_, true≢false, false≢true}
+use mathlib.Core.Bool.{Bool, true, false, not, _&&_, _||_, false≢true}
 use mathlib.Core.Path.{_≡_, refl, sym, ap, subst, _∙_}
 use mathlib.Core.List.{List, [], _∷_}
-use Prim.Native.Nat.{ℕ, zero, suc, _+_, _-_, _*_, _≤_}
+use Prim.Native.Nat.{ℕ, _+_, _-_, _*_, _≤_}
 use native.Mathlib.Omega.{arith}
 use lib.Dec.{eqb, ltb}
 use borrow.Author.Tests.{eqb-true, eq-eqb, ltb-false, le-ltb, lt-ltb}
 use Rattle.base.specs.Base.{pick, one}
-use Rattle.model.specs.Control.{boff, idleErrors, outcomeErrors, receivedErrors, receiveErrorCounters, recovers, idleCounts}
+use Rattle.model.specs.Control.{boff, idleErrors, receivedErrors, receiveErrorCounters, recovers, idleCounts}
 use Rattle.model.specs.Registers.{reset}
 use Rattle.model.specs.Step.{refusal, applied}
 use Rattle.model.specs.Requests.{after}
@@ -19,13 +19,13 @@ use Rattle.model.specs.declared.Core.{Core}
 use Rattle.model.specs.declared.Errors.{Errors}
 use Rattle.model.specs.declared.Step as steps
 use Rattle.model.specs.declared.Step.the-variants.{Reset, Read, Write, Idle, BitTimes, Activity, Start, Outcome, Receive, ReceiveError}
-use Rattle.base.proofs.Choices.{Is, Not, and-l, and-r, or-l, pick-cases, and-not}
+use Rattle.base.proofs.Choices.{Is, and-l, and-r, or-l}
 use Rattle.model.proofs.Coded.{refused}
 use Rattle.model.proofs.DoneSteps.{accepted}
-use Rattle.model.proofs.ErrorRules.{start-errors, end-sender, end-errors, esr-written-tec, done-errors}
+use Rattle.model.proofs.ErrorRules.{start-errors, end-sender, end-errors, outcome-tec, esr-written-tec, done-errors}
 use Rattle.model.proofs.ReadFields.{epvf-read, boff-read}
 use Rattle.model.proofs.WriteTargets.{errors-written}
-use Rattle.lone_node.specs.LoneNode.{endsBy, allEndBy, tries, loneResult, StaysOn, ackResult, noHardwareReset, GoesOff, LoneNode}
+use Rattle.lone_node.specs.LoneNode.{endsBy, allEndBy, tries, loneResult, ackResult, noHardwareReset, GoesOff, LoneNode}
 
 -- ---- a step
 
@@ -42,16 +42,6 @@ tecAfter (Outcome r) n = pick (eqb r 0) (n - 1) (pick (eqb r 7 || eqb r 8) n (n 
 tecAfter (Receive x) n = n
 tecAfter (ReceiveError k t) n = n
 
-ended-tec : (e : Errors) (r : ℕ) → e .tec ≤ 255 → outcomeErrors e r .tec ≡ tecAfter (Outcome r) (e .tec)
-unfolding outcomeErrors
-ended-tec e r h = go (eqb r 0) (eqb r 7) (eqb r 8) refl refl refl
-  where
-    go : (a b c : Bool) → eqb r 0 ≡ a → eqb r 7 ≡ b → eqb r 8 ≡ c → outcomeErrors e r .tec ≡ pick a (e .tec - 1) (pick (b || c) (e .tec) (e .tec + 8))
-    go true b c p q s = rw p
-    go false true c p q s = rw (p, q)
-    go false false true p q s = rw (p, q, s)
-    go false false false p q s = rw (p, q, s) (omega arith)
-
 -- an idle event leaves the counters of a node that is on
 idle-tec : (c : Core) → boff (c .errors) ≡ false → idleErrors (c .control) (c .errors) .tec ≡ c .errors .tec
 unfolding idleErrors recovers idleCounts
@@ -67,7 +57,7 @@ applied-tec c v (BitTimes n) t h = refl
 applied-tec c v Activity t h = refl
 applied-tec c v Start t h = rw (start-errors _ c)
 applied-tec c v (Outcome r) t h =
-    ap (λ (e : Errors). e .tec) (end-errors (c .transmit .queue .transmitting) c v r (end-sender c r h .0)) ∙ ended-tec (c .errors) r t
+    ap (λ (e : Errors). e .tec) (end-errors (c .transmit .queue .transmitting) c v r (end-sender c r h .0)) ∙ outcome-tec (c .errors) r (omega arith)
 applied-tec c v (Receive x) t h = refl
 applied-tec c v (ReceiveError k n) t h = refl
 

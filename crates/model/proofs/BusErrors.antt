@@ -12,6 +12,7 @@ use Rattle.model.specs.Control.{abom, inrq, sleep, isInitialization, isN
 use Rattle.model.specs.Control as control
 use Rattle.model.specs.Registers.{registerAt, reset, coreReset, written, isFree, withControl}
 use Rattle.model.specs.Step.{step, answered, coreAfter, refusal, applied, settled, storedBy, startedBy, endedBy, mayEnd, mayReceive, receiveErrorInRange}
+use Rattle.model.specs.Shown.{resultCode}
 use Rattle.model.specs.Reachable.{InRange}
 use Rattle.model.specs.History.{ErrorCounts, noErrors, Seen, countersBecome, writeCounted, isCounted, isLast, idleCounted, endCounted, stepCounted, initializationEntered, countsNext}
 use Rattle.model.specs.declared.Sender.{Sender}
@@ -30,6 +31,7 @@ use Rattle.model.specs.declared.Step as steps
 use Rattle.model.specs.declared.Step.the-variants.{Reset, Read, Write, Idle, BitTimes, Activity, Start, Outcome, Receive, ReceiveError}
 use Rattle.base.proofs.Choices.{Is, Not, and-l, and-r, Is-not, pick-cases, refused-unless}
 use Rattle.model.proofs.Follows.{end-accepted, may-end}
+use Rattle.model.proofs.ErrorRules.{outcome-tec, outcome-rec, outcome-lec}
 use Rattle.model.proofs.Mapped.{map}
 use Rattle.model.proofs.RegisterAccess.{elsewhere}
 use Rattle.model.proofs.ReceiveErrors.{receive-error-step}
@@ -197,15 +199,9 @@ changed : (c : Core) (d : Errors) → Not (boff (c .errors))
     (countersBecome (countsOf c) (d .tec) (d .rec) (d .lec))
 changed c d h = rw h
 
-outcome-errors : (a b c : Bool) (e : Errors) (r : ℕ) → eqb r 0 ≡ a → eqb r 7 ≡ b → eqb r 8 ≡ c → e .tec ≤ 263
-    → outcomeErrors e r ≡ record { tec = pick a (e .tec - 1) (pick (b || c) (e .tec) (e .tec + 8)); rec = e .rec; lec = pick b (e .lec) (pick c 3 r) }
-unfolding outcomeErrors
-outcome-errors true true c e r p q s h = let x : r ≡ 0 = eqb-true _ _ p in let y : r ≡ 7 = eqb-true _ _ q in absurd (omega arith)
-outcome-errors true false true e r p q s h = let x : r ≡ 0 = eqb-true _ _ p in let y : r ≡ 8 = eqb-true _ _ s in absurd (omega arith)
-outcome-errors true false false e r p q s h = rw p (λ j. record { tec = e .tec - 1; rec = e .rec; lec = sym (eqb-true r 0 p) j })
-outcome-errors false true c e r p q s h = rw (p, q)
-outcome-errors false false true e r p q s h = rw (p, q, s)
-outcome-errors false false false e r p q s h = rw (p, q, s) (ap (λ (t : ℕ). record { tec = t; rec = e .rec; lec = r }) (omega arith))
+outcome-errors : (e : Errors) (r : ℕ) → e .tec ≤ 263
+    → outcomeErrors e r ≡ record { tec = pick (eqb r 0) (e .tec - 1) (pick (eqb r 7 || eqb r 8) (e .tec) (e .tec + 8)); rec = e .rec; lec = pick (eqb r 7) (e .lec) (resultCode r) }
+outcome-errors e r h = λ j. record { tec = outcome-tec e r h j; rec = outcome-rec e r j; lec = outcome-lec e r j }
 
 wire-taken : (z : Controller) (r : ℕ) → eqb (refusal (z .core) (Outcome r)) 0 ≡ true → Not (isFree (z .core))
 unfolding refusal
@@ -218,7 +214,7 @@ end-counts Nobody c b r n f t = absurd (true≢false n)
 end-counts (From m) c b r n f t =
     kept-mode c (endedBy (From m) c b r) (endCounted (countsOf c) r) refl
     (changed c (outcomeErrors (c .errors) r) f
-    ∙ ap (λ (d : Errors). countersBecome (countsOf c) (d .tec) (d .rec) (d .lec)) (outcome-errors (eqb r 0) (eqb r 7) (eqb r 8) (c .errors) r refl refl refl t))
+    ∙ ap (λ (d : Errors). countersBecome (countsOf c) (d .tec) (d .rec) (d .lec)) (outcome-errors (c .errors) r t))
 
 -- who hears a frame or an error is not in bus-off
 hears-on : (c : Core) → Is (mayReceive c) → Not (boff (c .errors))

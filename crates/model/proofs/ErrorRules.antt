@@ -5,7 +5,7 @@ use mathlib.Core.List.{List}
 use Prim.Native.Nat.{ℕ, _+_, _-_, _≤_, _<_, min}
 use native.Mathlib.Omega.{arith}
 use lib.Dec.{eqb, ltb, leb}
-use borrow.Author.Tests.{eqb-true, eqb-false, ltb-true, ltb-false, leb-true, leb-false, le-leb, lt-leb, lt-ltb, le-ltb, not-true}
+use borrow.Author.Tests.{eqb-true, ltb-true, ltb-false, leb-true, leb-false, le-leb, lt-leb, lt-ltb, le-ltb, not-true}
 use Rattle.base.specs.Base.{pick, bit, bits}
 use Rattle.model.specs.Queue.{isNobody}
 use Rattle.model.specs.Control.{ewgf, epvf, boff, idleErrors, recovers, idleCounts, idled, counted, entered, ticked, woken, outcomeErrors, receivedErrors, recPlus, receiveErrorCounters, errorsChanged, controlReset, esrWritten}
@@ -73,14 +73,14 @@ unfolding endedBy
 end-errors Nobody c b r h = absurd (true≢false h)
 end-errors (From m) c b r h = refl
 
-outcome-rec : (e : Errors) (r : ℕ) → outcomeErrors e r .rec ≡ e .rec
+pub outcome-rec : (e : Errors) (r : ℕ) → outcomeErrors e r .rec ≡ e .rec
 unfolding outcomeErrors
 outcome-rec e r =
     pick-cases (λ (d : Errors). d .rec ≡ e .rec) (eqb r 0) _ _ (λ _. refl)
     (λ _. pick-cases (λ (d : Errors). d .rec ≡ e .rec) (eqb r 7) _ _ (λ _. refl)
     (λ _. pick-cases (λ (d : Errors). d .rec ≡ e .rec) (eqb r 8) _ _ (λ _. refl) (λ _. refl)))
 
-outcome-lec : (e : Errors) (r : ℕ) → outcomeErrors e r .lec ≡ pick (eqb r 7) (e .lec) (resultCode r)
+pub outcome-lec : (e : Errors) (r : ℕ) → outcomeErrors e r .lec ≡ pick (eqb r 7) (e .lec) (resultCode r)
 unfolding outcomeErrors
 outcome-lec e r = go (eqb r 0) (eqb r 7) (eqb r 8) refl refl refl
   where
@@ -91,6 +91,17 @@ outcome-lec e r = go (eqb r 0) (eqb r 7) (eqb r 8) refl refl refl
     go false true c p q s = rw (p, q)
     go false false true p q s = rw (p, q, s)
     go false false false p q s = rw (p, q, s)
+
+-- TEC, in any state that is reached
+pub outcome-tec : (e : Errors) (r : ℕ) → e .tec ≤ 263 → outcomeErrors e r .tec ≡ pick (eqb r 0) (e .tec - 1) (pick (eqb r 7 || eqb r 8) (e .tec) (e .tec + 8))
+unfolding outcomeErrors
+outcome-tec e r h = go (eqb r 0) (eqb r 7) (eqb r 8) refl refl refl
+  where
+    go : (a b c : Bool) → eqb r 0 ≡ a → eqb r 7 ≡ b → eqb r 8 ≡ c → outcomeErrors e r .tec ≡ pick a (e .tec - 1) (pick (b || c) (e .tec) (e .tec + 8))
+    go true b c p q s = rw p
+    go false true c p q s = rw (p, q)
+    go false false true p q s = rw (p, q, s)
+    go false false false p q s = rw (p, q, s) (omega arith)
 
 esr-written-rec : (b : Bool) (e : Errors) (w : ℕ) → pick b (esrWritten e w) e .rec ≡ e .rec
 unfolding esrWritten

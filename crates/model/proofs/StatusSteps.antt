@@ -1,10 +1,10 @@
 -- What TSR writes, TI writes, a master reset and an own end do to the flags and the requests; nothing else does.
-use mathlib.Core.Bool.{Bool, true, false, not, _&&_, _||_, Bool·beq, true≢false, false≢true, or-true, or-false}
+use mathlib.Core.Bool.{Bool, true, false, not, _&&_, _||_, true≢false, false≢true, or-true, or-false}
 use mathlib.Core.List.{List, [], _∷_, _++_}
 use mathlib.Core.Path.{_≡_, refl, sym, ap, ap₂, _∙_}
-use Prim.Native.Nat.{ℕ, _+_, _*_, _<_, _≤_}
+use Prim.Native.Nat.{ℕ, _+_, _*_, _≤_}
 use native.Mathlib.Omega.{arith}
-use lib.Dec.{eqb, ltb, leb}
+use lib.Dec.{eqb, ltb}
 use lib.ListN.{length}
 use borrow.Author.Tests.{eqb-true, ltb-false}
 use Rattle.base.specs.Base.{pick, bit}
@@ -36,8 +36,7 @@ use Rattle.model.specs.declared.Register.{Register}
 use Rattle.model.specs.declared.Register.the-variants.{Mcr, Msr, Tsr, Rfr, Ier, Esr, Btr, Ti, Tdt, Tdl, Tdh, Ri, Rdt, Rdl, Rdh, Fmr, Fm1r, Fs1r, Ffa1r, Fa1r, R1, R2, Absent}
 use Rattle.model.specs.declared.Step as steps
 use Rattle.model.specs.declared.Step.the-variants.{Reset, Read, Write, Idle, BitTimes, Activity, Start, Outcome, Receive, ReceiveError}
-use Rattle.base.proofs.Choices.{imp, imp-Is, not-Is, and-l, and-r, or-l, or-r, beq-eq, opposed, pick-cases}
-use Rattle.model.proofs.Bounded.{allBelow, each-below}
+use Rattle.base.proofs.Choices.{imp, imp-Is, not-Is, and-l, and-r, or-l, or-r, opposed, pick-cases}
 use Rattle.model.proofs.Orders.{orders, mailboxes, each-order, each-mailbox, same-eq}
 use Rattle.model.proofs.QueueRanges.{aborted-range, aborted-wire, aborted-all-wire}
 use Rattle.model.proofs.Views.{View, viewNext}

@@ -47,10 +47,9 @@ pub fn may_end(c: Core, r: u8) -> bool
     ensures { λ a. ⌜ a ≡ stepping.mayEnd c r ⌝ }
 {
     let k = c.control;
-    let e = c.errors;
     !is_free(c)
         & !(((r == 3) | (r == 8)) & control::lbkm(k))
-        & !((r == 8) & !control::is_passive(e.tec, e.rec))
+        & !((r == 8) & !control::epvf(c.errors))
 }
 
 pub fn may_receive(c: Core) -> bool

@@ -9,12 +9,12 @@ is-free-requires c κs = search needs
 lbkm-requires : tie.Need-lbkm-requires
 lbkm-requires c κs = search needs
 
-is-passive-requires : tie.Need-is-passive-requires
-is-passive-requires c κs = search needs
+epvf-requires : tie.Need-epvf-requires
+epvf-requires c κs = search needs
 
 returns : tie.Need-returns
 unfolding mayEnd
-returns c = simp (c .is-passive .ensures, c .before .lbkm .ensures, c .before .before .is-free .ensures)
+returns c = simp (c .epvf .ensures, c .before .lbkm .ensures, c .before .before .is-free .ensures)
 
 pub may-end-spec : {M : Type 1} → statement M
-may-end-spec = tie.close (tie.spec is-free-requires lbkm-requires is-passive-requires returns)
+may-end-spec = tie.close (tie.spec is-free-requires lbkm-requires epvf-requires returns)
