@@ -5,7 +5,7 @@ ghost use Rattle.model.specs.Script as scripts;
 
 // The code; what it is: a short header, a short body, a wrong length, an unknown tag; how many bytes there are, the tag,
 // how many bytes there should be.
-#[derive(Drop)]
+#[derive(Clone, Copy)]
 pub struct Fault {
     pub code: u8,
     pub kind: u32,

@@ -1,5 +1,6 @@
 // What there is to say of a step, in numbers: its register, why it is refused, which filter took its frame, and the state
 // before and after it. The words are another crate's.
+#![tactic(auto)]
 ghost use Rattle.std.specs.Prelude.{◌≡◌};
 ghost use Rattle.account.specs.Accounts as accounts;
 ghost use Rattle.account.specs.Views as views;
@@ -64,7 +65,7 @@ pub fn changes(old: [u32; 12], new: [u32; 12]) -> [bool; 12]
 // ---- the filter
 
 // Where a frame went: nothing to say, to no FIFO, to FIFO 0 or to FIFO 1 by a filter.
-#[derive(Drop)]
+#[derive(Clone, Copy)]
 pub struct Taken {
     pub by: u32,
     pub filter: u32,
@@ -99,7 +100,7 @@ fn taken_by(g: Filters, banks: &[u32; 28], e: Step) -> Taken
 
 // ---- the account
 
-#[derive(Drop)]
+#[derive(Clone, Copy)]
 pub struct Account {
     pub place: Place,
     pub code: u8,

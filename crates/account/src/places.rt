@@ -7,7 +7,7 @@ ghost use Rattle.account.specs.Places as places;
 use model::Step;
 
 // The number of a register's name, and of its FIFO, mailbox or bank.
-#[derive(Drop)]
+#[derive(Clone, Copy)]
 pub struct Place {
     pub kind: u32,
     pub index: u32,

@@ -49,7 +49,7 @@ const ERROR_ACTIVE: u32 = 26;
 const NOTHING: u32 = 27;
 
 // What can keep an event off the bus: not in Normal mode, bus-off, an own frame on the wire, no request, loopback.
-#[derive(Drop)]
+#[derive(Clone, Copy)]
 pub struct Bus {
     pub normal: bool,
     pub off: bool,

@@ -1,5 +1,6 @@
 // The bench layer: one controller is lent and changed in place. Each function copies it whole, calls the by-value
 // function and stores the next controller whole, so that no proof here goes by the fields of its core.
+#![tactic(auto)]
 ghost use Rattle.std.specs.Prelude.{◌≡◌, ◌+◌, ◌<◌, ◌^◌, length};
 ghost use Rattle.model.specs.Script as scripts;
 ghost use Rattle.model.specs.declared.Step.TheVariants as steps;
@@ -122,7 +123,7 @@ pub fn receive_error(c: &mut Controller, code: u8, by: u8) -> Answer
 // ---- one record of a script
 
 // What one record gives, beside the controller.
-#[derive(Drop)]
+#[derive(Clone, Copy)]
 pub struct Recorded {
     pub place: usize,
     pub ended: bool,
@@ -173,7 +174,7 @@ pub fn replay_record(
 // ---- a whole script
 
 // How far a replay has come, beside the controller.
-#[derive(Drop)]
+#[derive(Clone, Copy)]
 pub struct Progress {
     pub place: usize,
     pub records: usize,

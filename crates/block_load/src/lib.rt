@@ -1,4 +1,5 @@
 // A controller loaded from a state block (docs/BLOCK.md).
+#![tactic(auto)]
 ghost use Rattle.std.specs.Prelude.{◌≡◌, ◌≤◌, length};
 ghost use Rattle.block.specs.Block as blocks;
 ghost use Rattle.block_load.specs.Loaded as loading;
@@ -52,7 +53,7 @@ fn core_at(b: &[u8]) -> Core
 // with it
 
 // All but the banks' words, and the code.
-#[derive(Drop)]
+#[derive(Clone, Copy)]
 pub struct LoadedCore {
     pub core: Core,
     pub code: u8,
@@ -94,7 +95,7 @@ pub fn load_banks(b: &[u8]) -> [u32; 28]
 }
 
 // The controller, and the code.
-#[derive(Drop)]
+#[derive(Clone, Copy)]
 pub struct Loaded {
     pub controller: Controller,
     pub code: u8,

@@ -1,5 +1,6 @@
 // How many filters each search of the filters compares in a bench script: a line for each record that has a search. The script comes
 // on standard input, in pieces, the text goes to standard output. With --lesson it must open with the record of a hardware reset.
+#![tactic(auto)]
 use account::faults::Fault;
 use bits::least;
 use libc::{STDERR_FILENO, STDOUT_FILENO};
@@ -21,7 +22,7 @@ const COLUMN: usize = 11;
 // ---- what is counted
 
 // The records so far and the bytes that they take; the searches, the filters compared in all of them, the most in one.
-#[derive(Drop)]
+#[derive(Clone, Copy)]
 struct Counts {
     records: u64,
     bytes: u64,
@@ -92,7 +93,7 @@ fn sent(l: Line, file: i32) -> bool {
 // ---- a turn of the loop
 
 // The text waits to go out; a lesson's opening is read, or none is asked for.
-#[derive(Drop)]
+#[derive(Clone, Copy)]
 struct Session {
     controller: Controller,
     input: Input,

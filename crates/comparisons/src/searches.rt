@@ -5,7 +5,7 @@ ghost use Rattle.comparisons.specs.Searches as searches;
 use model::{Controller, Core, Sender, Step};
 
 // The identifier word that the filters are searched for, or no search.
-#[derive(Drop)]
+#[derive(Clone, Copy)]
 pub enum Searched {
     Word(u32),
     Nothing,

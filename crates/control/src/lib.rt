@@ -1,5 +1,7 @@
 // Modes, error counters, the timer, and the registers MCR, MSR, IER, BTR, ESR.
 // Each function is the definition of the same name in model's specs/Control.antt.
+#![tactic(auto)]
+
 ghost use Rattle.std.specs.Prelude.{◌≡◌, ◌&&◌, ◌||◌, nat_le, nat_lt};
 ghost use Rattle.model.specs.Control as control;
 

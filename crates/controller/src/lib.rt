@@ -1,4 +1,5 @@
 // One step of the controller, by value: a controller goes in, a controller comes back.
+#![tactic(auto)]
 ghost use Rattle.std.specs.Prelude.{◌≡◌};
 ghost use Rattle.model.specs.Registers as map;
 ghost use Rattle.model.specs.Step as stepping;
@@ -57,7 +58,7 @@ pub fn reset() -> Controller
 
 // The core, the code and the word, and the place and the value of the bank word that is written: at place 28 none is, at 29 all
 // become 0.
-#[derive(Drop)]
+#[derive(Clone, Copy)]
 pub struct Effect {
     pub core: Core,
     pub code: u8,
@@ -205,7 +206,7 @@ fn settled_if(ok: bool, c: Core) -> Control
 }
 
 // What a step gives but for the banks' words: these by the place and the value of the one that is written.
-#[derive(Drop)]
+#[derive(Clone, Copy)]
 pub struct CoreStepped {
     pub core: Core,
     pub code: u8,

@@ -1,6 +1,7 @@
 // Steps as numbers on standard input, their records on standard output, both in pieces. A request is six numbers of four bytes,
 // low byte first: the space, the tag and four numbers of the step, in the order of the record. The record goes to the front of a
 // buffer; the answer is the code, the number of bytes written and the whole buffer, which shows that the bytes behind it stay.
+#![tactic(auto)]
 ghost use Rattle.std.specs.Prelude.{◌+◌, ◌≤◌, length};
 
 use bits::least;
@@ -22,7 +23,7 @@ const UNTOUCHED: u8 = 0xEE;
 // ---- a request
 
 // The space, the tag and the step's numbers.
-#[derive(Drop)]
+#[derive(Clone, Copy)]
 struct Request {
     space: u32,
     tag: u32,
@@ -55,7 +56,7 @@ fn request_in(bytes: &[u8]) -> Request
 }
 
 // What a tag names.
-#[derive(Drop)]
+#[derive(Clone, Copy)]
 enum Named {
     Unknown,
     Step(WideStep),
@@ -107,7 +108,7 @@ fn copied(row: &[u8; ANSWER_LENGTH], to: &mut [u8]) -> usize {
 // ---- a turn of the loop
 
 // Behind so many requests and the bytes that they take.
-#[derive(Drop)]
+#[derive(Clone, Copy)]
 struct Place {
     requests: u64,
     bytes: u64,
@@ -121,7 +122,7 @@ fn next_place(k: Place) -> Place {
 }
 
 // How far the answers are written, how far the requests are answered, and the bytes of answers that wait in between.
-#[derive(Drop)]
+#[derive(Clone, Copy)]
 struct Progress {
     written: Place,
     answered: Place,

@@ -1,5 +1,6 @@
 // The worked numbers of document 01, run through the functions by value and through those on a lent controller: a line for each, what
 // it is and what came out.
+#![tactic(auto)]
 use libc::STDOUT_FILENO;
 use model::{Controller, Errors, Fifo, Filters, Frame};
 
@@ -108,7 +109,7 @@ fn ticks(l: bool, n: u16) {
     end();
 }
 
-fn starts_first_lem(l: bool, x: u32, y: u32) {
+fn starts_first(l: bool, x: u32, y: u32) {
     let z = wrote(
         l,
         wrote(l, normal(l, controller::reset(), 0), 0x180, x),
@@ -206,12 +207,12 @@ fn numbers(l: bool) {
     say(b"timer 65535 plus 65535:");
     ticks(l, 65535);
     say(b"first of standard 0x100 and extended 0x04000000, then the other way round:");
-    starts_first_lem(l, 0x20000001, 0x20000005);
-    starts_first_lem(l, 0x20000005, 0x20000001);
+    starts_first(l, 0x20000001, 0x20000005);
+    starts_first(l, 0x20000005, 0x20000001);
     end();
     say(b"first of extended 0x00040000 and standard 0x002, then the other way round:");
-    starts_first_lem(l, 0x00200005, 0x00400001);
-    starts_first_lem(l, 0x00400001, 0x00200005);
+    starts_first(l, 0x00200005, 0x00400001);
+    starts_first(l, 0x00400001, 0x00200005);
     end();
     say(b"frames 10, 11, 12, then 13, unlocked:");
     four_frames(l, 0x00);

@@ -1,11 +1,12 @@
 // What a step of a lesson must answer, and whether an answer is that.
+#![tactic(auto)]
 ghost use Rattle.std.specs.Prelude.{◌≡◌};
 ghost use Rattle.expected.specs.Holds as expectations;
 
 use model::Answer;
 
 // Code and word where `answered`, the interrupt lines where `lined`.
-#[derive(Drop)]
+#[derive(Clone, Copy)]
 pub struct Expected {
     pub answered: bool,
     pub code: u8,

@@ -1,5 +1,6 @@
 // The filter that a frame passes: the filters of a bank, their numbers, and the search.
 // A word of `Filters` has a bit for each bank, `banks` has R1 and R2 of each bank in turn, w is the frame's identifier word.
+#![tactic(auto)]
 ghost use Rattle.std.specs.Prelude.{◌≡◌, ℕ, ◌+◌, ◌<◌, ◌≤◌, ◌==◌};
 ghost use Rattle.model.specs.declared.FilterClass.TheVariants.{List32, Mask32, List16, Mask16};
 ghost use Rattle.base.specs.Base as base;
@@ -126,7 +127,7 @@ pub fn first_number(g: Filters, f: Fifo, b: Bank) -> FilterNumber
 // ---- one comparison
 
 // Whether a filter takes a frame, and how many filters have been compared with this one.
-#[derive(Drop)]
+#[derive(Clone, Copy)]
 struct Comparison {
     takes: bool,
     compared: u32,
@@ -159,11 +160,11 @@ fn of_class(g: Filters, k: FilterClass) -> u32
 }
 
 // A place in the search: four times the bank's number and the filter's place in the bank; 128 stands for none.
-#[derive(Drop)]
+#[derive(Clone, Copy)]
 struct Place(u32);
 
 // Where the first match stands, and how many filters were compared: those up to it, or all where there is none.
-#[derive(Drop)]
+#[derive(Clone, Copy)]
 struct FirstMatch {
     place: Place,
     compared: u32,
@@ -229,7 +230,7 @@ fn first_match(
 
 // The first match in FIFO 0; where it has none, the first in FIFO 1. `rest` is the word of the banks of FIFO 1 that are left to
 // search.
-#[derive(Drop)]
+#[derive(Clone, Copy)]
 struct Leading {
     f0: Place,
     f1: Place,
@@ -281,7 +282,7 @@ fn any_place(p: Leading) -> bool
 // ---- the class that wins
 
 // The class that was searched last, and the comparisons of all so far.
-#[derive(Drop)]
+#[derive(Clone, Copy)]
 struct BestClass {
     class: FilterClass,
     leading: Leading,
@@ -448,11 +449,11 @@ fn match_of_class(
 
 // Twice the filter's number, and one more in FIFO 1, so that the lower filter number wins, and FIFO 0 where they are equal;
 // 510 where no filter matches.
-#[derive(Drop)]
+#[derive(Clone, Copy)]
 pub struct WinningFilter(pub u32);
 
 // The winner, and how many filters were compared to find it.
-#[derive(Drop)]
+#[derive(Clone, Copy)]
 pub struct SearchResult {
     pub winner: WinningFilter,
     pub compared: u32,

@@ -1,10 +1,11 @@
 // Hex text: a byte is two hex digits; between bytes stand blanks, line ends, and comments from '#' to the line's end.
+#![tactic(auto)]
 ghost use Rattle.std.specs.Prelude.{◌≡◌, ◌+◌, ◌<◌, ◌≤◌, length};
 ghost use Rattle.model.specs.Script as scripts;
 ghost use Rattle.hex.specs.Text as hex;
 
 // What a character is.
-#[derive(Drop)]
+#[derive(Clone, Copy)]
 pub enum Kind {
     Digit(u8),
     Blank,
@@ -14,14 +15,14 @@ pub enum Kind {
 }
 
 // Why a text is not hex text: a character that has no place in it, or a digit without a second one.
-#[derive(Drop)]
+#[derive(Clone, Copy)]
 pub enum Fault {
     Character(u8),
     LoneDigit,
 }
 
 // Where a reader stands: between two bytes, behind the first digit of a byte, in a comment, or at a fault, where it stays.
-#[derive(Drop)]
+#[derive(Clone, Copy)]
 pub enum Place {
     Between,
     Inside(u8),
@@ -30,28 +31,28 @@ pub enum Place {
 }
 
 // Line and column are those of the next character, behind a first digit those of that digit, at a fault those of the fault.
-#[derive(Drop)]
+#[derive(Clone, Copy)]
 pub struct Reader {
     pub line: u64,
     pub column: u64,
     pub place: Place,
 }
 
-#[derive(Drop)]
+#[derive(Clone, Copy)]
 pub enum Given {
     Byte(u8),
     Nothing,
 }
 
 // What a character does: the reader behind it, and the byte that it completes.
-#[derive(Drop)]
+#[derive(Clone, Copy)]
 pub struct Advance {
     pub reader: Reader,
     pub given: Given,
 }
 
 // What a piece of text does: the reader behind it, and how many bytes it gave.
-#[derive(Drop)]
+#[derive(Clone, Copy)]
 pub struct Piece {
     pub reader: Reader,
     pub count: usize,

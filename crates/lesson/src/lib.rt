@@ -1,4 +1,5 @@
 // Lessons: scripts that must open with the record of a hardware reset. One record, a whole lesson, and a lesson in pieces.
+#![tactic(auto)]
 ghost use Rattle.std.specs.Prelude.{◌≡◌, length};
 ghost use Rattle.model.specs.Lesson as lessons;
 ghost use Rattle.model.specs.Script as scripts;
@@ -111,7 +112,7 @@ pub fn replay(start: Controller, lesson: &[u8], replies: &mut [u8]) -> Replay
 // ---- a lesson in pieces
 
 // What a piece gives, and whether a good opening has been read by then.
-#[derive(Drop)]
+#[derive(Clone, Copy)]
 pub struct LessonTurn {
     pub turn: Turn,
     pub opened: bool,

@@ -1,5 +1,6 @@
 // The bytes of a script on standard input, its steps as the text of a lesson on standard output, both of any length: a line for each
 // record. From a record on that can't be read all bytes are told as they are. Written again the lines are the script.
+#![tactic(auto)]
 use account::faults::Fault;
 use bits::least;
 use libc::{STDERR_FILENO, STDOUT_FILENO};
@@ -14,7 +15,7 @@ const LONGEST_RECORD: usize = 16;
 const ENOUGH_TEXT: usize = 65024;
 
 // The bytes of text that wait to go out; whether the bytes are told as they are.
-#[derive(Drop)]
+#[derive(Clone, Copy)]
 struct Progress {
     waiting: usize,
     input: Input,

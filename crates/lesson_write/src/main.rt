@@ -1,6 +1,7 @@
 // A lesson as text on standard input, the bytes of its script on standard output, both of any length. At a fault a line on standard
 // error says where it is, what was found there and what is allowed; then nothing more is read. With --check nothing is written and no
 // repeat is run twice; with --expects items are written, for the program trace: bytes of the script, and what its steps must answer.
+#![tactic(auto)]
 use bits::least;
 use expected::Expected;
 use libc::STDOUT_FILENO;
@@ -30,7 +31,7 @@ const EXPECTATION: u64 = 2;
 // outermost open repeat begin. `lines` have been read before. Of each open repeat: where its lines begin, behind the base; the
 // number of its own line; the turns that are left, this one with them. A repeat of no turns is silent, with all that is in it.
 // So many bytes wait to go out, each line's behind a head of so many.
-#[derive(Drop)]
+#[derive(Clone, Copy)]
 struct Progress {
     place: usize,
     filled: usize,

@@ -1,4 +1,5 @@
 // What a line of a lesson means: docs/LESSONS.md.
+#![tactic(auto)]
 ghost use Rattle.std.specs.Prelude.{◌≡◌};
 ghost use Rattle.lines.specs.Meanings as meanings;
 ghost use Rattle.lines.specs.Lines as lines;
@@ -15,14 +16,14 @@ mod numbers; // numbers, and names that stand for numbers
 mod parts; // fields, interrupt lines and bytes: as many as there are
 
 // Where a line is no line of a lesson, which rule it breaks there, and the number that the rule speaks of.
-#[derive(Drop)]
+#[derive(Clone, Copy)]
 pub struct Fault {
     pub place: usize,
     pub rule: u32,
     pub number: u32,
 }
 
-#[derive(Drop)]
+#[derive(Clone, Copy)]
 pub enum Meaning {
     Nothing,
     Step(WideStep),

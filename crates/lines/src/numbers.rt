@@ -10,7 +10,7 @@ pub(crate) const NO_NUMBER: u64 = 4294967296;
 
 // A word of a line: where it stands, where the line goes on behind a number, whether it begins with a decimal digit, the number that it
 // stands for, this number as a word, and the number where it stands for it as a name.
-#[derive(Drop)]
+#[derive(Clone, Copy)]
 pub(crate) struct Term {
     pub(crate) from: usize,
     pub(crate) to: usize,

@@ -15,7 +15,7 @@ use names::scan::{Class, Word, run_end, word_at};
 
 // What the words are: names of a group that stand for a bit up to the last; the rule that any other word breaks, with its number; whether
 // they are names alone, with no numbers behind them; and the whole word that they must agree with, where one is given.
-#[derive(Drop)]
+#[derive(Clone, Copy)]
 pub(crate) struct Kind {
     pub(crate) group: Group,
     pub(crate) last: u64,
@@ -27,7 +27,7 @@ pub(crate) struct Kind {
 
 // The words up to a place: the bits that they make, and which bits they gave; or the place where a rule is broken, and as `word` the
 // rule's number. Rule 0 is none.
-#[derive(Drop)]
+#[derive(Clone, Copy)]
 pub(crate) struct Part {
     pub(crate) place: usize,
     pub(crate) word: u64,

@@ -37,6 +37,7 @@ place-rank r k here = refl
 place-rank r k (there here) = refl
 place-rank r k (there (there here)) = refl
 place-rank r k (there (there (there here))) = refl
+place-rank _ k (there (there (there (there {r = r} x)))) = elim x [ ]
 
 -- ---- acceptance
 

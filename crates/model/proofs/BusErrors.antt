@@ -285,7 +285,7 @@ by_code : (ok : Bool) (c d : Core) (s : steps.Step) (a n : Bool)
     → ((v : Seen) → v.abom ≡ a → v.normal ≡ n → ok ≡ true → Settles c d (step_counted (counts_of c) v s))
     → counts_of (pick ok (settled d) c)
     ≡ counts_next (counts_of c) (record { done = ok; abom = a; normal = n; enters = not (is_initialization c.control.mode) && is_initialization (pick ok (settled d) c).control.mode }) s
-by_code true c d s a n h = h _ refl refl refl
+by_code true c d s a n h = h (record { done = true; abom = a; normal = n; enters = not (is_initialization c.control.mode) && is_initialization (settled d).control.mode }) refl refl refl
 by_code false c d s a n h = rw (not-and (is_initialization c.control.mode)) (sym (not_entered (counts_of c)))
 
 pub known-counts : (z : Controller) (s : steps.Step) → InRange z → stored (step z s).controller ≡ counts_next (stored z) (known_of z s) s

@@ -165,7 +165,7 @@ holds-from f l z [] i h k = k
 holds-from f l z (s ∷ r) i h k =
     subst (λ (x : List StoredFrame). Holds (fifo_of f (after (step z s).controller r).core) x)
     (λ j. waiting_from f (waiting_next l (traffic f z.core.control.timer z.core.transmit.queue.transmitting z s)) (step-timer z s i h.0 j) (sym (step-requests z s (good z i)) j) (step z s).controller r)
-    (holds-from f _ (step z s).controller r (step-in_range z s i h.0) h.1 (step_keeps f z s l i k))
+    (holds-from f (waiting_next l (traffic f z.core.control.timer z.core.transmit.queue.transmitting z s)) (step z s).controller r (step-in_range z s i h.0) h.1 (step_keeps f z s l i k))
 
 pub holds-reset : (f : Fifo) (l : List steps.Step) → StepsRange l → Holds (fifo_of f (after reset l).core) (frames f reset l)
 unfolding reset control_reset

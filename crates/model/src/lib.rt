@@ -1,10 +1,11 @@
 // The state of a bxCAN controller, the steps that it takes and what they answer.
 // The rules are the definitions of specs/; nothing here runs.
+#![tactic(auto)]
 
 // ---- transmission
 
 // One of the three transmit mailboxes.
-#[derive(Drop)]
+#[derive(Clone, Copy)]
 pub enum Mailbox {
     M0,
     M1,
@@ -12,14 +13,14 @@ pub enum Mailbox {
 }
 
 // A mailbox, or none: whose frame is on the wire, and which is first or last in priority.
-#[derive(Drop)]
+#[derive(Clone, Copy)]
 pub enum Sender {
     Nobody,
     From(Mailbox),
 }
 
 // The mailboxes that are not empty, the oldest request first.
-#[derive(Drop)]
+#[derive(Clone, Copy)]
 pub enum RequestOrder {
     Empty,
     One(Mailbox),
@@ -28,7 +29,7 @@ pub enum RequestOrder {
 }
 
 // A bit for each mailbox.
-#[derive(Drop)]
+#[derive(Clone, Copy)]
 pub struct MailboxBits {
     pub m0: bool,
     pub m1: bool,
@@ -36,7 +37,7 @@ pub struct MailboxBits {
 }
 
 // The requests: their order, the mailbox that is transmitting, the remembered aborts (ABRQ).
-#[derive(Drop)]
+#[derive(Clone, Copy)]
 pub struct Queue {
     pub order: RequestOrder,
     pub transmitting: Sender,
@@ -44,7 +45,7 @@ pub struct Queue {
 }
 
 // A mailbox's words, TXRQ left out of `ti`, and its flags in TSR.
-#[derive(Drop)]
+#[derive(Clone, Copy)]
 pub struct MailboxState {
     pub ti: u32,
     pub tdt: u32,
@@ -56,21 +57,21 @@ pub struct MailboxState {
     pub terr: bool,
 }
 
-#[derive(Drop)]
+#[derive(Clone, Copy)]
 pub struct Mailboxes {
     pub m0: MailboxState,
     pub m1: MailboxState,
     pub m2: MailboxState,
 }
 
-#[derive(Drop)]
+#[derive(Clone, Copy)]
 pub struct Transmit {
     pub mailboxes: Mailboxes,
     pub queue: Queue,
 }
 
 // The TI words of the three mailboxes: all that arbitration looks at.
-#[derive(Drop)]
+#[derive(Clone, Copy)]
 pub struct Identifiers {
     pub m0: u32,
     pub m1: u32,
@@ -80,14 +81,14 @@ pub struct Identifiers {
 // ---- reception
 
 // One of the two receive FIFOs.
-#[derive(Drop)]
+#[derive(Clone, Copy)]
 pub enum Fifo {
     F0,
     F1,
 }
 
 // A frame as it is stored: RI, RDT, RDL, RDH.
-#[derive(Drop)]
+#[derive(Clone, Copy)]
 pub struct StoredFrame {
     pub ri: u32,
     pub rdt: u32,
@@ -96,7 +97,7 @@ pub struct StoredFrame {
 }
 
 // A FIFO: `count` frames, the oldest first; places past the count hold zeros.
-#[derive(Drop)]
+#[derive(Clone, Copy)]
 pub struct FifoState {
     pub first: StoredFrame,
     pub second: StoredFrame,
@@ -107,7 +108,7 @@ pub struct FifoState {
 }
 
 // A frame on the bus: identifier word as in RI, data bytes 0 to 3 and 4 to 7, length code.
-#[derive(Drop)]
+#[derive(Clone, Copy)]
 pub struct Frame {
     pub identifier: u32,
     pub low: u32,
@@ -118,15 +119,15 @@ pub struct Frame {
 // ---- filters
 
 // The number of a filter bank.
-#[derive(Drop)]
+#[derive(Clone, Copy)]
 pub struct Bank(pub u32);
 
 // The number of a filter in its FIFO.
-#[derive(Drop)]
+#[derive(Clone, Copy)]
 pub struct FilterNumber(pub u8);
 
 // What the scale and mode bits make of a bank.
-#[derive(Drop)]
+#[derive(Clone, Copy)]
 pub enum FilterClass {
     List32,
     Mask32,
@@ -135,7 +136,7 @@ pub enum FilterClass {
 }
 
 // The words FM1R, FS1R, FFA1R, FA1R, a bit for each bank, and FINIT.
-#[derive(Drop)]
+#[derive(Clone, Copy)]
 pub struct Filters {
     pub mode: u32,
     pub scale: u32,
@@ -145,14 +146,14 @@ pub struct Filters {
 }
 
 // The first matching filter of one class in one FIFO.
-#[derive(Drop)]
+#[derive(Clone, Copy)]
 pub enum Hit {
     Filter(FilterNumber),
     Nothing,
 }
 
 // Where a frame goes.
-#[derive(Drop)]
+#[derive(Clone, Copy)]
 pub enum Acceptance {
     Into(Fifo, FilterNumber),
     Rejected,
@@ -160,7 +161,7 @@ pub enum Acceptance {
 
 // ---- the controller
 
-#[derive(Drop)]
+#[derive(Clone, Copy)]
 pub enum Mode {
     Sleep,
     Initialization,
@@ -169,7 +170,7 @@ pub enum Mode {
 
 // MCR, IER, BTR, the timer, the mode, the count of idles towards recovery from bus-off, whether Initialization
 // was entered since bus-off, and the flags of MSR.
-#[derive(Drop)]
+#[derive(Clone, Copy)]
 pub struct Control {
     pub mcr: u32,
     pub ier: u32,
@@ -184,7 +185,7 @@ pub struct Control {
 }
 
 // Transmit and receive error counters, last error code.
-#[derive(Drop)]
+#[derive(Clone, Copy)]
 pub struct Errors {
     pub tec: u16,
     pub rec: u8,
@@ -192,7 +193,7 @@ pub struct Errors {
 }
 
 // All but the banks' words, which no event changes.
-#[derive(Drop)]
+#[derive(Clone, Copy)]
 pub struct Core {
     pub control: Control,
     pub errors: Errors,
@@ -203,7 +204,7 @@ pub struct Core {
 }
 
 // `banks` holds R1 and R2 of each of the 14 banks in turn.
-#[derive(Drop)]
+#[derive(Clone, Copy)]
 pub struct Controller {
     pub core: Core,
     pub banks: [u32; 28],
@@ -212,7 +213,7 @@ pub struct Controller {
 // ---- steps and answers
 
 // A register, as an offset names it.
-#[derive(Drop)]
+#[derive(Clone, Copy)]
 pub enum Register {
     Mcr,
     Msr,
@@ -240,7 +241,7 @@ pub enum Register {
 }
 
 // A hardware reset, a register access or a bus event. `Outcome` is what document 01 calls an own end.
-#[derive(Drop)]
+#[derive(Clone, Copy)]
 pub enum Step {
     Reset,
     Read(u16),
@@ -255,7 +256,7 @@ pub enum Step {
 }
 
 // What a step gives: the next controller, the code (0 is done), the interrupt lines, the word.
-#[derive(Drop)]
+#[derive(Clone, Copy)]
 pub struct Stepped {
     pub controller: Controller,
     pub code: u8,
@@ -264,7 +265,7 @@ pub struct Stepped {
 }
 
 // What is said of a step.
-#[derive(Drop)]
+#[derive(Clone, Copy)]
 pub struct Answer {
     pub code: u8,
     pub lines: u8,
@@ -274,7 +275,7 @@ pub struct Answer {
 // ---- scripts
 
 // What stands at a place of a script: its end, a record that can't be read, or a step and the place behind its record.
-#[derive(Drop)]
+#[derive(Clone, Copy)]
 pub enum Reading {
     End,
     Malformed(u8),
@@ -282,7 +283,7 @@ pub enum Reading {
 }
 
 // A frame and a step in numbers of 32 bits, which may be too large for a record: what is written to a script.
-#[derive(Drop)]
+#[derive(Clone, Copy)]
 pub struct WideFrame {
     pub identifier: u32,
     pub low: u32,
@@ -290,7 +291,7 @@ pub struct WideFrame {
     pub length: u32,
 }
 
-#[derive(Drop)]
+#[derive(Clone, Copy)]
 pub enum WideStep {
     Reset,
     Read(u32),
@@ -305,21 +306,21 @@ pub enum WideStep {
 }
 
 // What writing a record gives: the code, and how many bytes are written.
-#[derive(Drop)]
+#[derive(Clone, Copy)]
 pub struct Written {
     pub code: u8,
     pub bytes: usize,
 }
 
 // What stands at a place of some replies: one that can't be read, or what it says and the place behind it.
-#[derive(Drop)]
+#[derive(Clone, Copy)]
 pub enum ReplyReading {
     Malformed(u8),
     Said(Answer, usize),
 }
 
 // What one record gives: the next controller, whether the script was at its end, the answer, the next place.
-#[derive(Drop)]
+#[derive(Clone, Copy)]
 pub struct Replayed {
     pub controller: Controller,
     pub place: usize,
@@ -331,7 +332,7 @@ pub struct Replayed {
 
 // What a whole script gives: the last controller, the place where the replay stopped, how many records gave a step,
 // how many bytes of replies were written, and the last answer.
-#[derive(Drop)]
+#[derive(Clone, Copy)]
 pub struct Replay {
     pub controller: Controller,
     pub place: usize,

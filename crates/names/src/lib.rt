@@ -1,4 +1,5 @@
 // Registers, fields and the words of a lesson by name: the one table of names, and how a word of a text is looked up in it.
+#![tactic(auto)]
 ghost use Rattle.std.specs.Prelude.{◌≡◌};
 ghost use Rattle.names.specs.Table as tables;
 
@@ -11,7 +12,7 @@ pub mod table; // the table as bytes
 
 // What is told by name: the registers, the fields of a register by its row, what begins a line of a lesson, the result of an own
 // frame, the interrupt lines, what is expected.
-#[derive(Drop)]
+#[derive(Clone, Copy)]
 pub enum Group {
     Registers,
     Fields(usize),
@@ -22,7 +23,7 @@ pub enum Group {
 }
 
 // Rows that follow one another: the first, and how many there are.
-#[derive(Drop)]
+#[derive(Clone, Copy)]
 pub struct Span {
     pub first: u32,
     pub count: u32,

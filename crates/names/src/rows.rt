@@ -14,13 +14,13 @@ pub(crate) const REGISTERS: usize = 30;
 pub(crate) const FIELDS: usize = 53;
 
 // A row, with the number that stands in a name for the percent sign; row NONE where there is none.
-#[derive(Drop)]
+#[derive(Clone, Copy)]
 pub struct Found {
     pub row: usize,
     pub index: u32,
 }
 
-#[derive(Drop)]
+#[derive(Clone, Copy)]
 pub enum Column {
     Place,
     Size,
@@ -29,7 +29,7 @@ pub enum Column {
 }
 
 // The numbers of a row. A register has the row of its first field and the number of such rows in place of `digits` and `shown`.
-#[derive(Drop)]
+#[derive(Clone, Copy)]
 pub struct Numbers {
     pub place: u32,
     pub size: u32,

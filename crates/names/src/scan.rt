@@ -2,7 +2,7 @@
 ghost use Rattle.std.specs.Prelude.{◌≡◌, ◌-◌};
 ghost use Rattle.names.specs.Scan as scan;
 
-#[derive(Drop)]
+#[derive(Clone, Copy)]
 pub enum Class {
     Blank,
     NoBlank,
@@ -12,7 +12,7 @@ pub enum Class {
 }
 
 // A word from one place up to another, with its first decimal digits from `digits` up to `rest`.
-#[derive(Drop)]
+#[derive(Clone, Copy)]
 pub struct Word {
     pub from: usize,
     pub digits: usize,

@@ -1,4 +1,5 @@
 // A step as a line of lesson text: docs/LESSONS.md, "From bytes to text". All names come from the table of crate names.
+#![tactic(auto)]
 ghost use Rattle.std.specs.Prelude.{◌≡◌, ◌%◌, ◌^◌};
 ghost use Rattle.names.specs.Rows as rows;
 ghost use Rattle.text.specs.Lines as lines;
@@ -53,7 +54,7 @@ pub fn register(l: Line, offset: u32) -> Line
 // ---- fields
 
 // A line with fields, and what they leave of the word.
-#[derive(Drop)]
+#[derive(Clone, Copy)]
 struct Said {
     line: Line,
     rest: usize,
@@ -84,7 +85,7 @@ fn lowest(n: u32, size: u32) -> u32
 }
 
 // What is shown of a field: its number, and that number where it stands in the word. Both are 0 where nothing is.
-#[derive(Drop)]
+#[derive(Clone, Copy)]
 struct Field {
     value: u32,
     placed: u32,

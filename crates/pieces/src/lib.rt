@@ -1,4 +1,5 @@
 // A script that is read in pieces: the replay of one piece, what of its replies is sent, and what is left of it.
+#![tactic(auto)]
 ghost use Rattle.std.specs.Prelude.{◌≡◌, ◌*◌, ◌≤◌, length};
 ghost use Rattle.base.specs.Base as base;
 ghost use Rattle.model.specs.Scripts as scripts;
@@ -7,7 +8,7 @@ ghost use Rattle.pieces.specs.Turns as turns;
 use model::{Controller, Replay};
 
 // Behind some records of a script: the controller, and how many records and bytes they are, modulo 2^64.
-#[derive(Drop)]
+#[derive(Clone, Copy)]
 pub struct Position {
     pub controller: Controller,
     pub records: u64,
@@ -16,7 +17,7 @@ pub struct Position {
 
 // What a piece gives: the position behind it, the place in it from which on it is left for the next piece, how many bytes of
 // replies are sent, whether the replay goes on with the next piece, and the end mark and code with which it stopped.
-#[derive(Drop)]
+#[derive(Clone, Copy)]
 pub struct Turn {
     pub position: Position,
     pub place: usize,
@@ -39,7 +40,7 @@ pub fn begun(z: Controller) -> Position
 
 // Whether the replay of a piece goes on with the next: it stopped at the end of a piece that is not the last, or at a record that
 // is cut short there.
-fn goes_on_lem(last: bool, ended: bool, code: u8) -> bool
+fn goes_on(last: bool, ended: bool, code: u8) -> bool
     ensures { result ≡ turns.goes last ended code }
 {
     !last & (ended | (code == 6))
@@ -72,7 +73,7 @@ fn turned(k: Position, last: bool, x: Replay) -> Turn
     ensures { result ≡ turns.turned k last x }
 {
     let p = behind(k, x);
-    let going = goes_on_lem(last, x.ended, x.code);
+    let going = goes_on(last, x.ended, x.code);
     Turn {
         position: p,
         place: x.place,

@@ -1,4 +1,5 @@
 // What a step shows of a controller: the word of a register or of a start, and the interrupt lines.
+#![tactic(auto)]
 ghost use Rattle.std.specs.Prelude.{◌≡◌, []};
 ghost use Rattle.model.specs.Step as stepping;
 ghost use Rattle.model.specs.declared.Step.TheVariants as steps;
@@ -9,7 +10,7 @@ use model::{Core, Mailbox, Transmit};
 // ---- a read
 
 // The code and the word of a read.
-#[derive(Drop)]
+#[derive(Clone, Copy)]
 pub struct Shown {
     pub code: u8,
     pub word: u32,

@@ -1,4 +1,5 @@
 // The register map: which register an offset names.
+#![tactic(auto)]
 ghost use Rattle.std.specs.Prelude.{◌≡◌};
 ghost use Rattle.model.specs.Registers as registers;
 

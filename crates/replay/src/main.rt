@@ -1,5 +1,6 @@
 // Replays a bench script from standard input, of any length, and writes the replies to standard output. With --lesson it must open
 // with the record of a hardware reset.
+#![tactic(auto)]
 use libc::STDOUT_FILENO;
 use pieces::Position;
 
@@ -7,7 +8,7 @@ mod say;
 
 // After a turn: the position, the part of the space that is not replayed yet, whether the opening is good or not asked for, and
 // whether to read on.
-#[derive(Drop)]
+#[derive(Clone, Copy)]
 struct Progress {
     position: Position,
     from: usize,
@@ -83,7 +84,7 @@ fn next(p: Progress, space: &mut [u8], replies: &mut [u8]) -> Progress {
 }
 
 // What the arguments ask for.
-#[derive(Drop)]
+#[derive(Clone, Copy)]
 enum Asked {
     Script,
     Lesson,

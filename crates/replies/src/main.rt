@@ -1,5 +1,6 @@
 // Replies in words: a line for each with its number, code, interrupt lines and word. The replies come on standard input, the text
 // goes to standard output; both go in pieces.
+#![tactic(auto)]
 use bits::least;
 use libc::{STDERR_FILENO, STDOUT_FILENO};
 use model::{Answer, ReplyReading};
@@ -99,7 +100,7 @@ fn complain_of(l: Line) {
 // ---- a turn of the loop
 
 // The replies so far and the bytes that they take; the bytes of text that wait to go out.
-#[derive(Drop)]
+#[derive(Clone, Copy)]
 struct Progress {
     replies: u64,
     bytes: u64,

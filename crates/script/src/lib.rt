@@ -1,4 +1,5 @@
 // Bench scripts: one record with its reply, and where a replay stops.
+#![tactic(auto)]
 ghost use Rattle.std.specs.Prelude.{◌≡◌, [], ◌≤◌, false, ◌||◌, eqb, ltb, length};
 ghost use Rattle.base.specs.Base as base;
 ghost use Rattle.model.specs.Script as scripts;
@@ -103,7 +104,7 @@ fn write_answer(reply: &mut [u8], ended: bool, code: u8, lines: u8, word: u32)
 }
 
 // What one record gives, the banks' words by the place (`bank`) and the value of the one that is written: none at place 28.
-#[derive(Drop)]
+#[derive(Clone, Copy)]
 pub struct CoreReplayed {
     pub core: Core,
     pub place: usize,

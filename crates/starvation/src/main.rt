@@ -1,6 +1,7 @@
 // A request that waits past n others under lowest-identifier order, beside the same traffic in order of requests. Mailbox 0
 // asks with the highest identifier; mailboxes 1 and 2 are filled again, each while the other one is on the wire. Every mark of
 // the picture is an answer of the controller. That there is such a history for every n is proved (`starvation` in the model).
+#![tactic(auto)]
 use libc::{STDERR_FILENO, STDOUT_FILENO};
 use model::{Controller, Step};
 
@@ -9,7 +10,7 @@ mod number;
 // The traffic through one controller: what it is after the last turn, whether mailbox 0 still waits, how many frames of others
 // ended well while it did, which mailbox was started last, TSR while its frame was on the wire, and whether every answer so
 // far was the one that is expected.
-#[derive(Drop)]
+#[derive(Clone, Copy)]
 struct Traffic {
     controller: Controller,
     others: u32,

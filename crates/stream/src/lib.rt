@@ -1,4 +1,5 @@
 // A script of any length, read a piece at a time.
+#![tactic(auto)]
 ghost use Rattle.std.specs.Prelude.{◌≡◌, false, length};
 ghost use Rattle.io.specs.Counts.{IsPrefixLen};
 ghost use Rattle.stream.specs.Space as spaces;
@@ -26,7 +27,7 @@ pub fn to_front(space: &mut [u8], from: usize, to: usize) -> usize
 }
 
 // What a space holds after more was read: so many bytes; whether the input has ended; whether the read failed.
-#[derive(Drop)]
+#[derive(Clone, Copy)]
 pub struct Filled {
     pub length: usize,
     pub ended: bool,
@@ -52,7 +53,7 @@ pub fn refilled(space: &mut [u8], from: usize, to: usize) -> Filled
 // ---- what is held of the input
 
 // The bytes of a space that are not used yet lie from `place` up to `filled`; whether the input is at its end, and whether by a failure.
-#[derive(Drop)]
+#[derive(Clone, Copy)]
 pub struct Input {
     pub place: usize,
     pub filled: usize,

@@ -1,5 +1,6 @@
 // A line of text, by value. Each function adds to the line; a byte for which there is no room is left out, and the
 // longest line leaves room.
+#![tactic(auto)]
 ghost use Rattle.std.specs.Prelude.{◌≡◌, replicate};
 ghost use Rattle.text.specs.Lines as lines;
 ghost use Rattle.text.specs.Numbers as numbers;
@@ -8,7 +9,7 @@ use bits::least;
 
 const ROOM: usize = 512;
 
-#[derive(Drop)]
+#[derive(Clone, Copy)]
 pub struct Line {
     pub bytes: [u8; ROOM],
     pub at: usize,

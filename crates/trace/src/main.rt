@@ -1,6 +1,7 @@
 // A bench script told in words: a line for each record with the step, its answer, the interrupt lines that are up and
 // what it changed. The script comes on standard input, the text goes to standard output; both go in pieces. With --expects the
 // input is the items of a lesson: its script, which must open with a reset, and what its steps must answer, which is checked.
+#![tactic(auto)]
 use account::Account;
 use account::faults::Fault;
 use bits::least;
@@ -45,7 +46,7 @@ const BEHIND: u32 = 4;
 // a refused step the number of the reason and of its mailbox or bank; `unsaid`: that a record can't be read is still to be told. What
 // a line expects of a record that isn't whole yet, by the number of the line, 0 where there is none; the expectations that were
 // checked and those that failed.
-#[derive(Drop)]
+#[derive(Clone, Copy)]
 struct Progress {
     records: u64,
     refused: u64,
@@ -318,7 +319,7 @@ fn next_item(p: Progress, space: &mut [u8], out: &mut [u8]) -> Progress {
 // ---- a turn of the loop
 
 // The length of the record at the front of the script, or why there is none: 6 to 8; 11, another opening than a reset; 0, no bytes.
-#[derive(Drop)]
+#[derive(Clone, Copy)]
 struct Front {
     length: usize,
     code: u8,

@@ -1,5 +1,6 @@
 // Hex text on standard input, its bytes on standard output. At a fault nothing more is written, and a line on standard error
 // says where it is and what is wrong.
+#![tactic(auto)]
 use hex::{Fault, Place, Reader};
 use libc::{STDERR_FILENO, STDOUT_FILENO};
 
@@ -32,7 +33,7 @@ fn say_fault(r: Reader, f: Fault) {
 }
 
 // Whether the text goes on.
-fn goes_on_lem(r: Reader) -> bool {
+fn goes_on(r: Reader) -> bool {
     let p = r.place;
     match p {
         Place::Between => true,
@@ -46,7 +47,7 @@ fn goes_on_lem(r: Reader) -> bool {
 }
 
 // The reader behind one more read of standard input, and whether to go on.
-#[derive(Drop)]
+#[derive(Clone, Copy)]
 struct Round {
     reader: Reader,
     more: bool,
@@ -70,7 +71,7 @@ fn written(r: Reader, text: &mut [u8]) -> Round {
     }
     Round {
         reader: next,
-        more: goes_on_lem(next),
+        more: goes_on(next),
     }
 }
 
@@ -82,7 +83,7 @@ fn read_some(r: Reader) -> Round {
         return over(r);
     }
     if got == 0 {
-        goes_on_lem(hex::ended(r));
+        goes_on(hex::ended(r));
         return over(r);
     }
     let n = io::count(got, &buf);

@@ -1,5 +1,6 @@
 // A workload for measuring: after set-up, a hundred thousand received frames and nothing else; or, with any argument, as many
 // accepted register accesses. `step` is called at one place, as a replay does.
+#![tactic(auto)]
 use libc::STDOUT_FILENO;
 use model::{Frame, Step};
 

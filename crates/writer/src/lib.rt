@@ -1,4 +1,5 @@
 // Bench scripts written: a step to its record in a lent space.
+#![tactic(auto)]
 ghost use Rattle.std.specs.Prelude.{◌≡◌, length};
 ghost use Rattle.model.specs.Script as scripts;
 ghost use Rattle.model.specs.Writer as writer;
@@ -11,7 +12,7 @@ pub const OPENING: [u8; 3] = *b"\x01\x00\x00";
 
 // The bytes of a record as a number, low byte first: the first eight of them and the others; how many there are; whether the tag can
 // hold each number.
-#[derive(Drop)]
+#[derive(Clone, Copy)]
 struct Packed {
     low: u64,
     high: u64,
