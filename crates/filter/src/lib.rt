@@ -1,6 +1,7 @@
 // The filter that a frame passes: the filters of a bank, their numbers, and the search.
 // A word of `Filters` has a bit for each bank, `banks` has R1 and R2 of each bank in turn, w is the frame's identifier word.
 #![tactic(auto)]
+
 ghost use Rattle.std.specs.Prelude.{◌≡◌, ℕ, ◌+◌, ◌<◌, ◌≤◌, ◌==◌};
 ghost use Rattle.model.specs.declared.FilterClass.TheVariants.{List32, Mask32, List16, Mask16};
 ghost use Rattle.base.specs.Base as base;

@@ -1,5 +1,6 @@
 // The requests of the three mailboxes: their order, the mailbox that is transmitting, the remembered aborts.
 #![tactic(auto)]
+
 ghost use Rattle.std.specs.Prelude.{◌≡◌};
 ghost use Rattle.base.specs.Base as base;
 ghost use Rattle.model.specs.Queue as queue;

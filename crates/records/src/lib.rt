@@ -1,5 +1,6 @@
 // The records of a bench script: the step that a record says, or why it can't be read.
 #![tactic(auto)]
+
 ghost use Rattle.std.specs.Prelude.{◌≡◌};
 ghost use Rattle.model.specs.Script as scripts;
 

@@ -1,5 +1,6 @@
 // The register map: which register an offset names.
 #![tactic(auto)]
+
 ghost use Rattle.std.specs.Prelude.{◌≡◌};
 ghost use Rattle.model.specs.Registers as registers;
 

@@ -1,0 +1,7 @@
+use Rattle.model.specs.Control.{btr_written}
+use Rattle.std.proofs.Common.{rules}
+use Rattle.control.proofs.btr_written.Goals as goal
+
+pub returns : goal.returns
+unfolding btr_written
+returns c = simp c.same_control.ensures

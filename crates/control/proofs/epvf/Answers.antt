@@ -1,0 +1,5 @@
+use Rattle.std.proofs.Common.{rules}
+use Rattle.control.proofs.epvf.Goals as goal
+
+pub returns : goal.returns
+returns c = c.is_passive.ensures

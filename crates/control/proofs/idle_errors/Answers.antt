@@ -1,0 +1,9 @@
+-- Both counters are cleared by the idle that recovers.
+use Rattle.model.specs.Control.{recovers, idle_errors}
+use Rattle.std.proofs.Common.{rules}
+use Rattle.control.proofs.Counting.{idle_counts-joined}
+use Rattle.control.proofs.idle_errors.Goals as goal
+
+pub returns : goal.returns
+unfolding recovers idle_errors
+returns c = simp (c.pick_u8.ensures, c.pick_u16.ensures, c.counts.ensures, c.is_off.ensures, idle_counts-joined)

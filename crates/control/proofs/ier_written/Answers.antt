@@ -1,0 +1,7 @@
+use Rattle.model.specs.Control.{ier_written}
+use Rattle.std.proofs.Common.{rules}
+use Rattle.control.proofs.ier_written.Goals as goal
+
+pub returns : goal.returns
+unfolding ier_written
+returns c = simp c.same_control.ensures

@@ -1,0 +1,7 @@
+use Rattle.model.specs.Control.{mcr_written}
+use Rattle.std.proofs.Common.{rules}
+use Rattle.control.proofs.mcr_written.Goals as goal
+
+pub returns : goal.returns
+unfolding mcr_written
+returns c = simp (c.same_control.ensures, c.pick_u16.ensures, c.bit.ensures)

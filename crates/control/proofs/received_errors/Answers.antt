@@ -1,0 +1,7 @@
+use Rattle.model.specs.Control.{received_errors}
+use Rattle.std.proofs.Common.{rules}
+use Rattle.control.proofs.received_errors.Goals as goal
+
+pub returns : goal.returns
+unfolding received_errors
+returns c = simp (c.pick_u8.ensures, c.less_one_u8.ensures)

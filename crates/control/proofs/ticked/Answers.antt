@@ -1,0 +1,7 @@
+use Rattle.model.specs.Control.{ticked}
+use Rattle.std.proofs.Common.{rules}
+use Rattle.control.proofs.ticked.Goals as goal
+
+pub returns : goal.returns
+unfolding ticked
+returns c = simp (c.same_control.ensures, c.pick_u16.ensures, c.ttcm.ensures, c.is_normal.ensures, c.wrapping_add_u16-later.ensures.value)

@@ -1,0 +1,7 @@
+use Rattle.model.specs.Control.{woken}
+use Rattle.std.proofs.Common.{rules}
+use Rattle.control.proofs.woken.Goals as goal
+
+pub returns : goal.returns
+unfolding woken
+returns c = simp (c.same_control.ensures, c.pick_u32.ensures, c.sleep_cleared.ensures, c.awum.ensures)

@@ -1,0 +1,8 @@
+-- The smaller of the two numbers, as the definition picks it.
+use Rattle.std.proofs.Common.{rules}
+use Rattle.filter.specs.Places.{lower}
+use Rattle.filter.proofs.lower.Goals as goal
+
+pub returns : goal.returns
+unfolding lower
+returns c = rw c.pick_u32.ensures

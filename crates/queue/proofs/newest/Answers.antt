@@ -1,0 +1,11 @@
+use borrow.Author.Rules.{rules}
+use Rattle.queue.proofs.newest.Goals as goal
+
+pub returns-in-One : goal.returns-in-One
+returns-in-One c = simp c.in-One.is
+
+pub returns-in-Two : goal.returns-in-Two
+returns-in-Two c = simp c.in-Two.is
+
+pub returns-in-Three : goal.returns-in-Three
+returns-in-Three c = simp c.in-Three.is

@@ -1,0 +1,5 @@
+use borrow.Author.Rules.{rules}
+use Rattle.queue.proofs.no_requests.Goals as goal
+
+pub returns : goal.returns
+returns c = simp c.no_flags.ensures

@@ -1,0 +1,6 @@
+-- The frame field by field.
+use borrow.Author.Rules.{rules}
+use Rattle.records.proofs.decode.receive_step.Goals as goal
+
+pub returns : goal.returns
+returns c = simp (c.number32-high.ensures, c.number32-low.ensures, c.number32-identifier.ensures)
