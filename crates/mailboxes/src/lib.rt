@@ -1,5 +1,6 @@
 // The three transmit mailboxes: their words and flags, the register writes that change them, TI as it is read.
 #![tactic(auto)]
+
 ghost use Rattle.std.specs.Prelude.{◌≡◌, ◌<◌};
 ghost use Rattle.model.specs.Queue as queue;
 ghost use Rattle.model.specs.Mailboxes as mailboxes;

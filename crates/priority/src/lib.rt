@@ -1,5 +1,6 @@
 // Which request is first and which is last: by request order, or by the bits on the wire.
 #![tactic(auto)]
+
 ghost use Rattle.std.specs.Prelude.{◌≡◌};
 ghost use Rattle.model.specs.Mailboxes as mailboxes;
 

@@ -1,6 +1,7 @@
 // Frames and the two FIFOs of three.
 // Each function is the definition of the same name in model's specs/Reception.antt.
 #![tactic(auto)]
+
 ghost use Rattle.std.specs.Prelude.{◌≡◌, ◌≤◌, ◌*◌, ◌-◌, ◌^◌};
 ghost use Rattle.model.specs.Mailboxes as mailboxes;
 ghost use Rattle.model.specs.Reception as reception;

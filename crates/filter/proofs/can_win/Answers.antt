@@ -5,16 +5,7 @@ use Rattle.model.specs.Banks.{bank, class_of}
 use Rattle.model.proofs.FirstHit.{width-le}
 use Rattle.filter.proofs.LeftBanks.{lowest_set, without_less}
 use Rattle.filter.proofs.Numbered.{either, neither, Low, none-low, one-low, all-low, surely_low, rest_in_fifo1, all_in_word, begin_below, begin_whole}
-use Rattle.filter.proofs.can_win.Reads as reads
-use Rattle.filter.proofs.can_win.Lts as lts
-use Rattle.filter.proofs.width_at.Reads as width-at-reads
 use Rattle.filter.proofs.can_win.Goals as goal
-
--- the next bank is one of the 14, and the numbers so far are below n
-module _ (c : lts.Else3 (width-at-reads.Asked, width-at-reads.Learnt) reads.Pre reads.Post invariant-loop decreases-loop) where
-  goes_on_lem : (count_trailing_zeros 32 c.before.loop.left < 14) × (c.before.loop.number < c.before.before.before.before.before.args.n)
-  goes_on_lem =
-      neither 14 (count_trailing_zeros 32 c.before.loop.left) c.before.before.before.before.before.args.n c.before.loop.number c.if3.false
 
 pub returns-then-part-sure-eq0 : goal.returns-then-part-sure-eq0
 returns-then-part-sure-eq0 c = λ k m rest fits less. begin_below _ _ _ k m rest fits less _ (surely_low _ _ _ c.if-part-sure-eq0.true)
@@ -27,22 +18,22 @@ pub loop-number-init : goal.loop-number-init
 loop-number-init c = none-low _ _ (omega (arith, c.struct_known-1.given))
 
 pub width_at-number-requires : goal.width_at-number-requires
-width_at-number-requires c = (goes_on_lem c).0
+width_at-number-requires c = (neither 14 (count_trailing_zeros 32 c.loop-number.left) c.args.n c.loop-number.number c.if-i-n.false).0
 
 pub overflow_add-number : goal.overflow_add-number
 overflow_add-number c =
-    omega (arith, (goes_on_lem c).1, c.requires, c.width_at-number.ensures, width-le (class_of c.args.g (bank (count_trailing_zeros 32 c.loop-number.left))))
+    omega (arith, (neither 14 (count_trailing_zeros 32 c.loop-number.left) c.args.n c.loop-number.number c.if-i-n.false).1, c.requires, c.width_at-number.ensures, width-le (class_of c.args.g (bank (count_trailing_zeros 32 c.loop-number.left))))
 
 pub overflow_shl-left : goal.overflow_shl-left
-overflow_shl-left c = omega (arith, (goes_on_lem c).0)
+overflow_shl-left c = omega (arith, (neither 14 (count_trailing_zeros 32 c.loop-number.left) c.args.n c.loop-number.number c.if-i-n.false).0)
 
 pub loop-number-smaller : goal.loop-number-smaller
 loop-number-smaller c =
-    without_less c.loop-number.left _ (omega (arith, (goes_on_lem c).0)) (lowest_set c.loop-number.left (omega (arith, (goes_on_lem c).0)))
+    without_less c.loop-number.left _ (omega (arith, (neither 14 (count_trailing_zeros 32 c.loop-number.left) c.args.n c.loop-number.number c.if-i-n.false).0)) (lowest_set c.loop-number.left (omega (arith, (neither 14 (count_trailing_zeros 32 c.loop-number.left) c.args.n c.loop-number.number c.if-i-n.false).0)))
 
 pub loop-number-preserved : goal.loop-number-preserved
 loop-number-preserved c =
-    rw c.width_at-number.ensures (one-low _ _ _ _ c.loop-number.invariant (goes_on_lem c).0 (goes_on_lem c).1)
+    rw c.width_at-number.ensures (one-low _ _ _ _ c.loop-number.invariant (neither 14 (count_trailing_zeros 32 c.loop-number.left) c.args.n c.loop-number.number c.if-i-n.false).0 (neither 14 (count_trailing_zeros 32 c.loop-number.left) c.args.n c.loop-number.number c.if-i-n.false).1)
 
 pub returns : goal.returns
 returns c = λ k m rest fits less.

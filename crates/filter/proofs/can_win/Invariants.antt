@@ -4,9 +4,6 @@ use Rattle.model.specs.Banks.{bank, class_of}
 use Rattle.model.proofs.FirstHit.{width-le}
 use Rattle.filter.proofs.LeftBanks.{lowest_set, without_less}
 use Rattle.filter.proofs.Numbered.{either, neither, Low, none-low, one-low, all-low, surely_low, rest_in_fifo1, all_in_word, begin_below, begin_whole}
-use Rattle.filter.proofs.can_win.Reads as reads
-use Rattle.filter.proofs.can_win.Lts as lts
-use Rattle.filter.proofs.width_at.Reads as width-at-reads
 use Rattle.filter.proofs.can_win.Given as goal
 
 abbrev pub invariant-loop-number : goal.invariant-loop-number

@@ -1,0 +1,5 @@
+use borrow.Author.Rules.{rules}
+use Rattle.mailboxes.proofs.flags_written.Goals as goal
+
+pub returns : goal.returns
+returns c = simp (c.completed.ensures, c.cleared.ensures)

@@ -1,0 +1,5 @@
+use borrow.Author.Rules.{rules}
+use Rattle.mailboxes.proofs.with_mailbox.Goals as goal
+
+pub returns : goal.returns
+returns c = simp c.put-d.ensures

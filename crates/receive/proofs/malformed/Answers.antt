@@ -1,0 +1,7 @@
+use Rattle.model.specs.Reception.{malformed}
+use borrow.Author.Rules.{rules}
+use Rattle.receive.proofs.malformed.Goals as goal
+
+pub returns : goal.returns
+unfolding malformed
+returns c = simp (c.bit-2.ensures, c.bit.ensures)
