@@ -1,5 +1,6 @@
 // What a step shows of a controller: the word of a register or of a start, and the interrupt lines.
 #![tactic(auto)]
+
 ghost use Rattle.std.specs.Prelude.{◌≡◌, []};
 ghost use Rattle.model.specs.Step as stepping;
 ghost use Rattle.model.specs.declared.Step.TheVariants as steps;

@@ -1,5 +1,6 @@
 // What an accepted write to a register does: to the core, and to the words of the filter banks.
 #![tactic(auto)]
+
 ghost use Rattle.std.specs.Prelude.{◌≡◌, ◌<◌};
 ghost use Rattle.model.specs.Registers as map;
 ghost use Rattle.writes.specs.Places as places;

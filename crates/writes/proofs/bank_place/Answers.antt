@@ -9,8 +9,7 @@ use Rattle.model.specs.contracts.Register.{the_type}
 use Rattle.model.specs.declared.Register.{Register}
 use Rattle.model.specs.declared.Register.TheVariants.{Mcr, Msr, Tsr, Rfr, Ier, Esr, Btr, Ti, Tdt, Tdl, Tdh, Ri, Rdt, Rdl, Rdh, Fmr, Fm1r, Fs1r, Ffa1r, Fa1r, R1, R2, Absent}
 use Rattle.writes.specs.Places.{place_of}
-use Rattle.writes.proofs.bank_place.Statement.{statement}
-use Rattle.writes.proofs.bank_place.Tie as tie
+use Rattle.writes.proofs.bank_place.Goals as goal
 
 -- the positions of the other variants
 abbrev others : List ℕ
@@ -42,37 +41,13 @@ at_none (R1 b) h = absurd (miss others 20 tt h)
 at_none (R2 b) h = absurd (miss others 21 tt h)
 at_none Absent h = refl
 
-enum-known-x : tie.Need-enum-known-x
-enum-known-x c = search rules
-
-place-in-requires : tie.Need-place-in-requires
-place-in-requires c κs = search rules
-
-enum-known-x-2 : tie.Need-enum-known-x-2
-enum-known-x-2 c = search rules
-
-place-in-requires-2 : tie.Need-place-in-requires-2
-place-in-requires-2 c κs = search rules
-
-returns : tie.Need-returns
+pub returns-in-R1 : goal.returns-in-R1
 unfolding place_of
-returns c = simp (c.place_in.ensures, c.before.before.x.given.1)
+returns-in-R1 c = simp (c.place_in.ensures, c.in-R1.is)
 
-returns-2 : tie.Need-returns-2
+pub returns-in-R2 : goal.returns-in-R2
 unfolding place_of
-returns-2 c = simp (c.place-in2.ensures, c.before.before.x2.given.1)
+returns-in-R2 c = simp (c.place_in-in-R2.ensures, c.in-R2.is)
 
-returns-3 : tie.Need-returns-3
-returns-3 c = at_none _ c.match.keys3
-
-pub bank-place_spec : {M : Type 1} → statement M
-bank-place_spec =
-    tie.close
-    (tie.spec
-    enum-known-x
-    place-in-requires
-    enum-known-x-2
-    place-in-requires-2
-    returns
-    returns-2
-    returns-3)
+pub returns-in_default : goal.returns-in_default
+returns-in_default c = at_none _ c.in_default.in_default-own.keys3
