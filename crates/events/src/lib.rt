@@ -1,5 +1,6 @@
 // What each bus event does to the controller, before the mode rule: the clauses of the definition `applied` in the model.
 #![tactic(auto)]
+
 ghost use Rattle.std.specs.Prelude.{◌≡◌, [], ◌/◌};
 ghost use Rattle.model.specs.Reception as reception;
 ghost use Rattle.model.specs.Step as stepping;
