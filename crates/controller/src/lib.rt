@@ -1,5 +1,6 @@
 // One step of the controller, by value: a controller goes in, a controller comes back.
 #![tactic(auto)]
+
 ghost use Rattle.std.specs.Prelude.{◌≡◌};
 ghost use Rattle.model.specs.Registers as map;
 ghost use Rattle.model.specs.Step as stepping;

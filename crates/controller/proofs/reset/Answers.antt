@@ -1,0 +1,7 @@
+use borrow.Author.Rules.{rules}
+use Rattle.model.specs.Registers.{reset}
+use Rattle.controller.proofs.reset.Goals as goal
+
+pub returns : goal.returns
+unfolding reset
+returns c = simp c.core_reset.ensures
