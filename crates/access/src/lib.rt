@@ -1,5 +1,6 @@
 // Each register access and bus event as a call of its own: a controller goes in, a controller comes back.
 #![tactic(auto)]
+
 ghost use Rattle.std.specs.Prelude.{◌≡◌};
 ghost use Rattle.model.specs.Step as stepping;
 ghost use Rattle.model.specs.declared.Step.TheVariants as steps;

@@ -1,5 +1,6 @@
 // Bench scripts: one record with its reply, and where a replay stops.
 #![tactic(auto)]
+
 ghost use Rattle.std.specs.Prelude.{◌≡◌, [], ◌≤◌, false, ◌||◌, eqb, ltb, length};
 ghost use Rattle.base.specs.Base as base;
 ghost use Rattle.model.specs.Script as scripts;
