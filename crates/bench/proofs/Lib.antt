@@ -1,13 +1,4 @@
-pub mod Again
-pub mod CallWalks
-pub mod Lies
-pub mod LoopWalk
-pub mod NamedCalls
 pub mod Placed
-pub mod RecordWalk
 pub mod Rounds
-pub mod Single
-pub mod StepWalk
-pub mod Stores
-pub mod Told
+pub mod Taken
 pub mod Turns

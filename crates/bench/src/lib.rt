@@ -1,6 +1,7 @@
 // The bench layer: one controller is lent and changed in place. Each function copies it whole, calls the by-value
 // function and stores the next controller whole, so that no proof here goes by the fields of its core.
 #![tactic(auto)]
+
 ghost use Rattle.std.specs.Prelude.{◌≡◌, ◌+◌, ◌<◌, ◌^◌, length};
 ghost use Rattle.model.specs.Script as scripts;
 ghost use Rattle.model.specs.declared.Step.TheVariants as steps;

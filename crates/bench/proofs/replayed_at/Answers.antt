@@ -1,0 +1,16 @@
+-- The part of the reply space from the place on is lent to the record.
+use mathlib.Core.Path.{◌≡◌, ap, ◌∙◌}
+use Prim.Native.Nat.{◌-◌}
+use lib.ListN.{length}
+use borrow.Author.Rules.{rules}
+use Rattle.model.specs.Script.{reply_of}
+use Rattle.script.specs.OneWay.{core_replayed, whole}
+use Rattle.bench.proofs.Placed.{part_length, placed-part, least_left, least-placed}
+use Rattle.bench.proofs.replayed_at.Goals as goal
+
+pub returns : goal.returns
+returns c =
+    let n : length c.args.replies.now - c.least-from.result ≡ length c.args.replies.now - c.args.written = rw c.least-from.ensures.0 (least_left c.args.written c.args.replies.now) in (
+      c.core_replayed.ensures.value ∙ ap (core_replayed c.args.z c.args.script.now c.args.place) (part_length c.least-from.result c.args.replies.now c.least-from.ensures.1 ∙ n),
+      placed-part c.least-from.result c.args.replies.now c.least-from.ensures.1 (reply_of (whole c.args.z c.core_replayed.result)) c.core_replayed.new.reply c.core_replayed.ensures.reply_after ∙ rw c.least-from.ensures.0 (least-placed c.args.written c.args.replies.now (reply_of (whole c.args.z c.core_replayed.result))),
+    )
