@@ -1,6 +1,7 @@
 // Each register access and bus event on a controller that is lent and changed in place: a controller goes in, the call of crates/bench is
 // lent a copy of it, and what became of the copy comes back.
 #![tactic(auto)]
+
 ghost use Rattle.std.specs.Prelude.{◌≡◌};
 ghost use Rattle.model.specs.Step as stepping;
 ghost use Rattle.model.specs.declared.Step.TheVariants as steps;

@@ -1,2 +1,0 @@
-pub mod LentCalls
-pub mod LentWalks
