@@ -1,5 +1,6 @@
 // Whether a controller lies within the listed ranges.
 #![tactic(auto)]
+
 ghost use Rattle.std.specs.Prelude.{◌≡◌, ◌≤◌};
 ghost use Rattle.model.specs.Reachable as reachable;
 ghost use Rattle.model.specs.Control as controls;
