@@ -1,5 +1,6 @@
 // A controller saved as a state block in lent bytes (docs/BLOCK.md).
 #![tactic(auto)]
+
 ghost use Rattle.std.specs.Prelude.{◌≡◌, ◌≤◌, length};
 ghost use Rattle.std.proofs.lemmas.List.Edits.{sets};
 ghost use Rattle.model.specs.Registers as map;

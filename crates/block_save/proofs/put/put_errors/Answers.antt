@@ -1,0 +1,7 @@
+use Rattle.block.specs.Block.{errors_bytes}
+use borrow.Author.Rules.{rules}
+use Rattle.block_save.proofs.put.put_errors.Goals as goal
+
+pub returns : goal.returns
+unfolding errors_bytes
+returns c = rw (c.put2.ensures, c.put16.ensures, c.put3.ensures)

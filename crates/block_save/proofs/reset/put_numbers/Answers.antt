@@ -1,0 +1,7 @@
+use Rattle.block_save.specs.Reset.{reset_numbers}
+use borrow.Author.Rules.{rules}
+use Rattle.block_save.proofs.reset.put_numbers.Goals as goal
+
+pub returns : goal.returns
+unfolding reset_numbers
+returns c = rw (c.put1-2.ensures, c.put4.ensures, c.put1.ensures, c.put32-2.ensures, c.put32.ensures)
