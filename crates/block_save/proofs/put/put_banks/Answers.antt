@@ -24,10 +24,6 @@ loop-j-preserved c =
       e ∙ (ap (λ (x : List ℕ). sets x (242 + 4 * c.loop-j.j) (bytes32 (get_or v c.loop-j.j 0))) c.loop-j.invariant.2 ∙ word_more v _ c.loop-j.j (omega arith)),
     )
 
-pub shape_of-b : goal.shape_of-b
-shape_of-b c =
-    kept _ _ 242 (word_bytes (take c.loop-j.j c.args.v)) c.loop-j.invariant.2 ∙ kept _ c.args.b.now 239 (0x49 ∷ 112 ∷ 0 ∷ []) c.put3.ensures
-
 pub returns : goal.returns
 returns c =
     let n : length c.args.v ≡ 28 = search rules in

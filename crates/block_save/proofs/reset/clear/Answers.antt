@@ -9,9 +9,6 @@ use borrow.Author.Rules.{rules}
 use Rattle.block_save.proofs.Over.{filled}
 use Rattle.block_save.proofs.reset.clear.Goals as goal
 
-pub loop-i-init : goal.loop-i-init
-loop-i-init c = (omega arith, c.requires, fill_none _ 0)
-
 pub loop-i-preserved : goal.loop-i-preserved
 loop-i-preserved c =
     (omega arith, length-set c.loop-i.b c.loop-i.i 0 ∙ c.loop-i.invariant.1, ap (λ (r : List ℕ). set r c.loop-i.i 0) c.loop-i.invariant.2 ∙ fill_more c.loop-i.i 0 c.args.b.now (omega arith))
