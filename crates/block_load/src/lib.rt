@@ -1,5 +1,6 @@
 // A controller loaded from a state block (docs/BLOCK.md).
 #![tactic(auto)]
+
 ghost use Rattle.std.specs.Prelude.{◌≡◌, ◌≤◌, length};
 ghost use Rattle.block.specs.Block as blocks;
 ghost use Rattle.block_load.specs.Loaded as loading;

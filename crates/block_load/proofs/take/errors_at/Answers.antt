@@ -1,0 +1,7 @@
+use Rattle.block.specs.Block.{errors_at}
+use borrow.Author.Rules.{rules}
+use Rattle.block_load.proofs.take.errors_at.Goals as goal
+
+pub returns : goal.returns
+unfolding errors_at
+returns c = simp c.number16-tec.ensures

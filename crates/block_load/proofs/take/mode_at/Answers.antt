@@ -1,0 +1,15 @@
+use Rattle.block.specs.Block.{mode_at}
+use borrow.Author.Tests.{eq-eqb, ne_eqb}
+use Rattle.block_load.proofs.take.mode_at.Goals as goal
+
+pub returns-then-n-eq0 : goal.returns-then-n-eq0
+unfolding mode_at
+returns-then-n-eq0 c = simp (eq-eqb _ _ c.if-n-eq0.true)
+
+pub returns-then-n-eq1 : goal.returns-then-n-eq1
+unfolding mode_at
+returns-then-n-eq1 c = simp (ne_eqb _ _ c.if-n-eq0.false, eq-eqb _ _ c.if-n-eq1.true)
+
+pub returns : goal.returns
+unfolding mode_at
+returns c = simp (ne_eqb _ _ c.if-n-eq0.false, ne_eqb _ _ c.if-n-eq1.false)
