@@ -1,10 +1,11 @@
 // A script of any length, read a piece at a time.
 #![tactic(auto)]
+
 ghost use Rattle.std.specs.Prelude.{◌≡◌, false, length};
 ghost use Rattle.io.specs.Counts.{IsPrefixLen};
 ghost use Rattle.stream.specs.Space as spaces;
 
-use libc::STDIN_FILENO;
+use std::io::Read;
 
 // Moves the bytes from one place up to another to the front and says how many they are.
 pub fn to_front(space: &mut [u8], from: usize, to: usize) -> usize
@@ -34,19 +35,24 @@ pub struct Filled {
     pub failed: bool,
 }
 
-// Moves the bytes from one place up to another to the front and reads from standard input behind them, where there is room: in a
-// full space nothing can be read, and that counts as the end.
-pub fn refilled(space: &mut [u8], from: usize, to: usize) -> Filled
+// Moves the bytes from one place up to another to the front and reads behind them, where there is room: in a full space nothing can
+// be read, and that counts as the end.
+pub fn refilled<R: Read>(reader: &mut R, space: &mut [u8], from: usize, to: usize) -> Filled
     ensures prefix_len { IsPrefixLen result.length space.new }
     ensures refilled { spaces.Refilled from to space.old space.new result.length result.ended result.failed }
 {
     let held = to_front(space, from, to);
-    let got = libc::read(STDIN_FILENO, &mut space[held..]);
-    let more = io::count(got, &space[held..]);
-    Filled {
-        length: held + more,
-        ended: got == 0,
-        failed: got < 0,
+    match reader.read(&mut space[held..]) {
+        Ok(more) => Filled {
+            length: held + more,
+            ended: more == 0,
+            failed: false,
+        },
+        Err(_) => Filled {
+            length: held,
+            ended: false,
+            failed: true,
+        },
     }
 }
 
@@ -90,10 +96,10 @@ pub fn passed(i: Input, n: usize) -> Input
 }
 
 // What is not used yet goes to the front, and more is read behind it.
-pub fn read_on(i: Input, space: &mut [u8]) -> Input
+pub fn read_on<R: Read>(i: Input, reader: &mut R, space: &mut [u8]) -> Input
     ensures { spaces.ReadOn i space.old space.new result }
 {
-    let f = refilled(space, i.place, i.filled);
+    let f = refilled(reader, space, i.place, i.filled);
     Input {
         place: 0,
         filled: f.length,

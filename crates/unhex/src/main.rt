@@ -1,7 +1,7 @@
 // Hex text on standard input, its bytes on standard output. At a fault nothing more is written, and a line on standard error
 // says where it is and what is wrong.
 #![tactic(auto)]
-use hex::{Fault, Place, Reader};
+use hex_text::{Fault, Place, Reader};
 use libc::{STDERR_FILENO, STDOUT_FILENO};
 
 fn say(text: &[u8]) {
@@ -62,7 +62,7 @@ fn over(r: Reader) -> Round {
 
 // The bytes of a piece of text are written.
 fn written(r: Reader, text: &mut [u8]) -> Round {
-    let piece = hex::unhexed(r, text);
+    let piece = hex_text::unhexed(r, text);
     let count = piece.count;
     let next = piece.reader;
     if !io::write_all(STDOUT_FILENO, &text[..count]) {
@@ -83,7 +83,7 @@ fn read_some(r: Reader) -> Round {
         return over(r);
     }
     if got == 0 {
-        goes_on(hex::ended(r));
+        goes_on(hex_text::ended(r));
         return over(r);
     }
     let n = io::count(got, &buf);
@@ -92,7 +92,7 @@ fn read_some(r: Reader) -> Round {
 
 // A proved loop has to end, and nothing says that the input does; so the turns count down from a number that no run uses up.
 fn main() {
-    let mut r = hex::start();
+    let mut r = hex_text::start();
     let mut turns = u64::MAX;
     while turns > 0 {
         let x = read_some(r);

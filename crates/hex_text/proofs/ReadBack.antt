@@ -6,18 +6,18 @@ use Rattle.model.specs.Records.{Bytes}
 use Rattle.model.specs.Script.{byte_at}
 use Rattle.base.proofs.Choices.{Is, and_l, and_r, pick_cases}
 use Rattle.model.proofs.Bounded.{all_below, each_below}
-use Rattle.hex.specs.Text.{kind_numbers, fault_numbers, place_numbers, is_within, kind_of, taken, reader_after, given_by, after_byte, after_digit, in_comment, second_digit, along, at, bytes_of, start, Progress, read_on, unhexed, ended, read}
-use Rattle.hex.specs.Written.{CasesApart, upper_digit, lower_digit, Digits, Places, hex_of, ReadBack, TwoPieces, StaysAtFault}
-use Rattle.hex.specs.declared.Kind.{Kind}
-use Rattle.hex.specs.declared.Kind.TheVariants.{Digit, Blank, LineEnd, Hash, Other}
-use Rattle.hex.specs.declared.Fault.{Fault}
-use Rattle.hex.specs.declared.Fault.TheVariants.{Character, LoneDigit}
-use Rattle.hex.specs.declared.Place.{Place}
-use Rattle.hex.specs.declared.Place.TheVariants.{Between, Inside, Comment, Stopped}
-use Rattle.hex.specs.declared.Reader.{Reader}
-use Rattle.hex.specs.declared.Given.{Given}
-use Rattle.hex.specs.declared.Given.TheVariants.{Byte, Nothing}
-use Rattle.hex.proofs.Texts.{in_pieces_lem, stays}
+use Rattle.hex_text.specs.Text.{kind_numbers, fault_numbers, place_numbers, is_within, kind_of, taken, reader_after, given_by, after_byte, after_digit, in_comment, second_digit, along, at, bytes_of, start, Progress, read_on, unhexed, ended, read}
+use Rattle.hex_text.specs.Written.{CasesApart, upper_digit, lower_digit, Digits, Places, hex_of, ReadBack, TwoPieces, StaysAtFault}
+use Rattle.hex_text.specs.declared.Kind.{Kind}
+use Rattle.hex_text.specs.declared.Kind.TheVariants.{Digit, Blank, LineEnd, Hash, Other}
+use Rattle.hex_text.specs.declared.Fault.{Fault}
+use Rattle.hex_text.specs.declared.Fault.TheVariants.{Character, LoneDigit}
+use Rattle.hex_text.specs.declared.Place.{Place}
+use Rattle.hex_text.specs.declared.Place.TheVariants.{Between, Inside, Comment, Stopped}
+use Rattle.hex_text.specs.declared.Reader.{Reader}
+use Rattle.hex_text.specs.declared.Given.{Given}
+use Rattle.hex_text.specs.declared.Given.TheVariants.{Byte, Nothing}
+use Rattle.hex_text.proofs.Texts.{in_pieces_lem, stays}
 
 -- ---- the numbers tell the cases apart
 

@@ -2,17 +2,17 @@
 -- fold of `taken` over its characters, so that it may come in pieces.
 use Rattle.std.specs.Prelude.{ℕ, ◌+◌, ◌-◌, ◌*◌, ◌%◌, ◌^◌, Bool, true, false, ◌&&◌, ◌||◌, List, [], ◌∷◌, ◌++◌, length, ◌==◌, nat_le, slice_set}
 use Rattle.base.specs.Base.{pick}
-use Rattle.hex.specs.declared.Kind.{Kind}
-use Rattle.hex.specs.declared.Kind.TheVariants.{Digit, Blank, LineEnd, Hash, Other}
-use Rattle.hex.specs.declared.Fault.{Fault}
-use Rattle.hex.specs.declared.Fault.TheVariants.{Character, LoneDigit}
-use Rattle.hex.specs.declared.Place.{Place}
-use Rattle.hex.specs.declared.Place.TheVariants.{Between, Inside, Comment, Stopped}
-use Rattle.hex.specs.declared.Reader.{Reader}
-use Rattle.hex.specs.declared.Given.{Given}
-use Rattle.hex.specs.declared.Given.TheVariants.{Byte, Nothing}
-use Rattle.hex.specs.declared.Advance.{Advance}
-use Rattle.hex.specs.declared.Piece.{Piece}
+use Rattle.hex_text.specs.declared.Kind.{Kind}
+use Rattle.hex_text.specs.declared.Kind.TheVariants.{Digit, Blank, LineEnd, Hash, Other}
+use Rattle.hex_text.specs.declared.Fault.{Fault}
+use Rattle.hex_text.specs.declared.Fault.TheVariants.{Character, LoneDigit}
+use Rattle.hex_text.specs.declared.Place.{Place}
+use Rattle.hex_text.specs.declared.Place.TheVariants.{Between, Inside, Comment, Stopped}
+use Rattle.hex_text.specs.declared.Reader.{Reader}
+use Rattle.hex_text.specs.declared.Given.{Given}
+use Rattle.hex_text.specs.declared.Given.TheVariants.{Byte, Nothing}
+use Rattle.hex_text.specs.declared.Advance.{Advance}
+use Rattle.hex_text.specs.declared.Piece.{Piece}
 
 -- ---- the cases as numbers, each with its values; what is given is told by its bytes, `bytes_of`
 

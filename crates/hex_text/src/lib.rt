@@ -2,7 +2,7 @@
 #![tactic(auto)]
 ghost use Rattle.std.specs.Prelude.{◌≡◌, ◌+◌, ◌<◌, ◌≤◌, length};
 ghost use Rattle.model.specs.Script as scripts;
-ghost use Rattle.hex.specs.Text as hex;
+ghost use Rattle.hex_text.specs.Text as hex;
 
 // What a character is.
 #[derive(Clone, Copy)]

@@ -3,13 +3,13 @@
 use Rattle.std.specs.Prelude.{◌≡◌, ℕ, ◌+◌, ◌-◌, ◌*◌, ◌/◌, ◌%◌, ◌<◌, true, false, ◌||◌, List, [], ◌∷◌, ◌++◌, ◌==◌, nat_lt}
 use Rattle.base.specs.Base.{pick}
 use Rattle.model.specs.Records.{Bytes}
-use Rattle.hex.specs.Text.{kind_numbers, fault_numbers, place_numbers, kind_of, taken, bytes_of, unhexed, read}
-use Rattle.hex.specs.declared.Kind.{Kind}
-use Rattle.hex.specs.declared.Fault.{Fault}
-use Rattle.hex.specs.declared.Place.{Place}
-use Rattle.hex.specs.declared.Reader.{Reader}
-use Rattle.hex.specs.declared.Given.{Given}
-use Rattle.hex.specs.declared.Given.TheVariants.{Nothing}
+use Rattle.hex_text.specs.Text.{kind_numbers, fault_numbers, place_numbers, kind_of, taken, bytes_of, unhexed, read}
+use Rattle.hex_text.specs.declared.Kind.{Kind}
+use Rattle.hex_text.specs.declared.Fault.{Fault}
+use Rattle.hex_text.specs.declared.Place.{Place}
+use Rattle.hex_text.specs.declared.Reader.{Reader}
+use Rattle.hex_text.specs.declared.Given.{Given}
+use Rattle.hex_text.specs.declared.Given.TheVariants.{Nothing}
 
 -- the numbers tell every two cases apart
 pub record CasesApart : Type 0 where
