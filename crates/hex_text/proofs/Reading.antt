@@ -1,7 +1,7 @@
 -- What holds while a text is read and its bytes are written over its start, and how one character more carries it on.
-use Rattle.std.proofs.Common.{◌≡◌, ℕ, zero, suc, ◌+◌, ◌-◌, ◌<◌, ◌≤◌, Bool, true, false, ◌&&◌, leb, List, [], ◌∷◌, ◌++◌, length, get_or, take, drop, set, sym, refl, ap, ◌∙◌, true≢false, append_assoc, append-nil, add-zero, add-one, arith, length-set, take-append-drop, drop_of_length-le, length-take-le, get_or-drop, drop-cons, drop-drop, take-suc-set, drop-set-lt, leb-true}
+use Rattle.std.proofs.Common.{◌≡◌, ℕ, suc, ◌+◌, ◌-◌, ◌<◌, ◌≤◌, Bool, true, false, ◌&&◌, leb, List, ◌∷◌, ◌++◌, length, get_or, take, drop, sym, refl, ap, ◌∙◌, true≢false, append-nil, add-zero, add-one, arith, length-set, take-append-drop, drop_of_length-le, length-take-le, get_or-drop, drop-cons, drop-drop, take-suc-set, drop-set-lt, leb-true}
 use Rattle.model.specs.Script.{overwritten}
-use Rattle.hex_text.specs.Text.{is_within, taken, bytes_of, stored, Progress, advanced, read_on, unhexed, piece_of}
+use Rattle.hex_text.specs.Text.{is_within, taken, bytes_of, stored, advanced, read_on, unhexed, piece_of}
 use Rattle.hex_text.specs.declared.Reader.{Reader}
 use Rattle.hex_text.specs.declared.Given.{Given}
 use Rattle.hex_text.specs.declared.Given.TheVariants.{Byte, Nothing}

@@ -1,5 +1,5 @@
 -- A text may be read in pieces, and a reader at a fault gives nothing more.
-use Rattle.std.proofs.Common.{◌≡◌, ℕ, ◌+◌, List, [], ◌∷◌, ◌++◌, sym, refl, ap, ◌∙◌, append_assoc, append-nil}
+use Rattle.std.proofs.Common.{◌≡◌, ℕ, List, [], ◌∷◌, ◌++◌, sym, refl, ap, ◌∙◌, append_assoc, append-nil}
 use Rattle.hex_text.specs.Text.{taken, reader_after, given_by, bytes_of, Progress, advanced, read_on, unhexed, at}
 use Rattle.hex_text.specs.declared.Reader.{Reader}
 use Rattle.hex_text.specs.declared.Fault.{Fault}

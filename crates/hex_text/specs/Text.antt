@@ -1,6 +1,6 @@
 -- Hex text: what bytes it gives, where it stops and why. The reader takes one character after the other; a text is read by a
 -- fold of `taken` over its characters, so that it may come in pieces.
-use Rattle.std.specs.Prelude.{ℕ, ◌+◌, ◌-◌, ◌*◌, ◌%◌, ◌^◌, Bool, true, false, ◌&&◌, ◌||◌, List, [], ◌∷◌, ◌++◌, length, ◌==◌, nat_le, slice_set}
+use Rattle.std.specs.Prelude.{ℕ, ◌+◌, ◌-◌, ◌*◌, ◌%◌, ◌^◌, Bool, ◌&&◌, ◌||◌, List, [], ◌∷◌, ◌++◌, length, ◌==◌, nat_le, slice_set}
 use Rattle.base.specs.Base.{pick}
 use Rattle.hex_text.specs.declared.Kind.{Kind}
 use Rattle.hex_text.specs.declared.Kind.TheVariants.{Digit, Blank, LineEnd, Hash, Other}

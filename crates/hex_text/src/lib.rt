@@ -1,5 +1,6 @@
 // Hex text: a byte is two hex digits; between bytes stand blanks, line ends, and comments from '#' to the line's end.
 #![tactic(auto)]
+
 ghost use Rattle.std.specs.Prelude.{◌≡◌, ◌+◌, ◌<◌, ◌≤◌, length};
 ghost use Rattle.model.specs.Script as scripts;
 ghost use Rattle.hex_text.specs.Text as hex;
@@ -61,6 +62,7 @@ pub struct Piece {
 // ---- one character
 
 // A digit's value counts from the character of the digit 0, or from the one ten places before A or a.
+#[tactic(auto, unfolding(crate::specs::Text::kind_of))]
 fn kind_of(c: u8) -> Kind
     ensures { result ≡ hex.kind_of c }
 {
@@ -117,6 +119,7 @@ fn next_line(r: Reader) -> Reader
     }
 }
 
+#[tactic(auto, unfolding(crate::specs::Text::after_byte))]
 fn after_byte(r: Reader, c: u8, k: Kind) -> Reader
     ensures { result ≡ hex.after_byte r c k }
 {
@@ -129,6 +132,7 @@ fn after_byte(r: Reader, c: u8, k: Kind) -> Reader
     }
 }
 
+#[tactic(auto, unfolding(crate::specs::Text::after_digit))]
 fn after_digit(r: Reader, c: u8, k: Kind) -> Reader
     ensures { result ≡ hex.after_digit r c k }
 {
@@ -141,6 +145,7 @@ fn after_digit(r: Reader, c: u8, k: Kind) -> Reader
     }
 }
 
+#[tactic(auto, unfolding(crate::specs::Text::in_comment))]
 fn in_comment(r: Reader, k: Kind) -> Reader
     ensures { result ≡ hex.in_comment r k }
 {
@@ -153,6 +158,7 @@ fn in_comment(r: Reader, k: Kind) -> Reader
     }
 }
 
+#[tactic(auto, unfolding(crate::specs::Text::reader_after))]
 fn reader_after(r: Reader, c: u8, k: Kind) -> Reader
     ensures { result ≡ hex.reader_after r.place r c k }
 {
@@ -165,6 +171,7 @@ fn reader_after(r: Reader, c: u8, k: Kind) -> Reader
     }
 }
 
+#[tactic(auto, unfolding(crate::specs::Text::second_digit))]
 fn second_digit(h: u8, k: Kind) -> Given
     ensures { result ≡ hex.second_digit h k }
 {
@@ -177,6 +184,7 @@ fn second_digit(h: u8, k: Kind) -> Given
     }
 }
 
+#[tactic(auto, unfolding(crate::specs::Text::given_by))]
 fn given_by(p: Place, k: Kind) -> Given
     ensures { result ≡ hex.given_by p k }
 {
@@ -189,6 +197,7 @@ fn given_by(p: Place, k: Kind) -> Given
 }
 
 // One character.
+#[tactic(auto, unfolding(crate::specs::Text::taken))]
 pub fn taken(r: Reader, c: u8) -> Advance
     ensures { result ≡ hex.taken r c }
 {
@@ -252,6 +261,7 @@ pub fn unhexed(r: Reader, text: &mut [u8]) -> Piece
 }
 
 // At the end of the text: a first digit has no second one.
+#[tactic(auto, unfolding(crate::specs::Text::ended))]
 pub fn ended(r: Reader) -> Reader
     ensures { result ≡ hex.ended r.place r }
 {

@@ -1,9 +1,8 @@
 -- Bytes moved to the front of a list one by one, each from its own place further on.
-use Rattle.std.proofs.Common.{◌≡◌, ℕ, zero, suc, ◌+◌, ◌-◌, ◌<◌, ◌≤◌, min, Bool, false, ◌&&◌, ◌||◌, eqb, List, [], ◌∷◌, ◌++◌, length, get_or, take, drop, set, sym, refl, ap, ◌∙◌, subst, add_comm, zero-add, arith, length-drop, length-take, get_or-drop, take_at, get_or-append-add}
+use Rattle.std.proofs.Common.{◌≡◌, ℕ, suc, ◌+◌, ◌<◌, ◌≤◌, List, ◌++◌, length, get_or, take, drop, set, sym, refl, ap, ◌∙◌, add_comm, zero-add, arith, length-drop, length-take, get_or-drop, get_or-append-add}
 use native.Mathlib.Nat.{min-eq_left}
 use lib.Seq.{paste, paste-suc, length-paste}
-use borrow.Rule.Slice.PartMut.{put_mid, take_put}
-use Rattle.stream.specs.Space.{between, moved, Refilled}
+use Rattle.stream.specs.Space.{moved}
 
 is_paste : (from i : ℕ) (s : List ℕ) → moved from i s ≡ paste s 0 (drop from s) i
 is_paste from i s = ap (λ (j : ℕ). take i (drop from s) ++ drop j s) (sym (zero-add i))
@@ -35,22 +34,3 @@ one-moved from i s d h =
     ∙ paste-suc s 0 (drop from s) i d (omega (arith, h)) (rw (length-drop from s) (omega (arith, h)))
     ∙ sym (is_paste from (suc i) s)
     ∙ ap (λ (j : ℕ). moved from j s) next
-
--- bytes read behind those that were moved to the front
-pub refills : (from to h m k : ℕ) (s t p : List ℕ) → h ≡ between from to (length s) → t ≡ moved from h s → h ≤ length t → length (put_mid h k t p) ≡ length s → h + m ≤ length s
-    → (ended failed : Bool) → (ended || failed) ≡ eqb (h + m) h → (ended && failed) ≡ false
-    → ((h + m ≤ length (put_mid h k t p)) × (h + m ≡ length (take (h + m) (put_mid h k t p)))) × Refilled from to s (put_mid h k t p) (h + m) ended failed
-refills from to h m k s t p g e f size b ended failed nothing apart =
-    let within : h + m ≤ length (put_mid h k t p) = omega (arith, size, b) in
-    let lies : h ≤ length (drop from s) = rw (length-drop from s) (omega (arith, g)) in
-    let front : take h t ≡ take h (drop from s) = ap (λ (l : List ℕ). take h l) e ∙ take_at (take h (drop from s)) (drop h s) h (length-take h (drop from s) ∙ min-eq_left lies) in (
-      (within, sym (length-take (h + m) (put_mid h k t p) ∙ min-eq_left within)),
-      record {
-        kept = subst (λ (j : ℕ). take j (put_mid h k t p) ≡ take j (drop from s)) g (take_put h k t p f ∙ front);
-        counted = omega (arith, g);
-        within = within;
-        size = size;
-        nothing = nothing ∙ ap (λ (j : ℕ). eqb (h + m) j) g;
-        apart = apart;
-      },
-    )
