@@ -1,15 +1,22 @@
 // How many filters each search of the filters compares in a bench script: a line for each record that has a search. The script comes
 // on standard input, in pieces, the text goes to standard output. With --lesson it must open with the record of a hardware reset.
 #![tactic(auto)]
+
 use account::faults::Fault;
 use bits::least;
-use libc::{STDERR_FILENO, STDOUT_FILENO};
+use command_line::Asked;
 use model::{Controller, Reading, Step};
 use searches::Searched;
+use std::env::Env;
+use std::io::Read;
 use stream::Input;
 use text::Line;
 
 mod searches; // which steps search the filters, and what that compares
+
+const STDOUT_FILENO: i32 = 1;
+
+const STDERR_FILENO: i32 = 2;
 
 // No record has more bytes.
 const LONGEST_RECORD: usize = 16;
@@ -132,8 +139,8 @@ fn flushed_if(b: bool, s: Session) -> Session {
     s
 }
 
-fn read_on(s: Session, space: &mut [u8]) -> Session {
-    let i = stream::read_on(s.input, space);
+fn read_on<R: Read>(s: Session, reader: &mut R, space: &mut [u8]) -> Session {
+    let i = stream::read_on(s.input, reader, space);
     if i.failed {
         complain(b"comparisons: standard input can't be read\n");
     }
@@ -220,45 +227,44 @@ fn next_record(s: Session, rest: &[u8]) -> Session {
 }
 
 // More is read, with all text sent before that, or the next record is looked at.
-fn round(s: Session, space: &mut [u8]) -> Session {
+fn round<R: Read>(s: Session, reader: &mut R, space: &mut [u8]) -> Session {
     let i = s.input;
     if stream::wants(i, LONGEST_RECORD) {
-        return read_on(flushed(s), space);
+        return read_on(flushed(s), reader, space);
     }
     let filled = least(i.filled, space.len());
     let place = least(i.place, filled);
     next_record(s, &space[place..filled])
 }
 
-// A loop that is proved has to end, and nothing says that the input does: the turns are counted down from a number that
-// no run uses up.
-fn run(first: Session, space: &mut [u8]) {
+// A loop that is proved has to end, and nothing says that the input does: no run uses so many turns up.
+fn run<R: Read>(first: Session, reader: &mut R, space: &mut [u8]) {
     let mut s = first;
-    let mut turns = u64::MAX;
-    while 0 < turns && s.going {
-        s = round(s, space);
-        turns -= 1;
+    for _ in 0..u64::MAX {
+        if !s.going {
+            break;
+        }
+        s = round(s, reader, space);
     }
     flushed(s);
 }
 
 // Other arguments than --lesson are told, and nothing is read.
-fn arguments() -> Session {
-    let mut text = io::buffer();
-    let length = os::arg(1, &mut text);
-    let lesson = check::same(&text[..length], b"--lesson");
-    let n = os::arg_count();
-    let known = (n < 2) | ((n == 2) & lesson);
-    if !known {
-        complain(b"usage: comparisons [--lesson]\n");
+fn arguments(rt: &impl Env) -> Session {
+    match command_line::look_for(rt, b"--lesson") {
+        Asked::Nothing => begun(false, true),
+        Asked::Word => begun(true, true),
+        Asked::Other => {
+            complain(b"usage: comparisons [--lesson]\n");
+            begun(false, false)
+        }
     }
-    begun(lesson, known)
 }
 
-fn main() {
+fn main(rt: HostRuntime) {
     let mut space = io::large_buffer();
-    let first = arguments();
+    let first = arguments(&rt);
     if first.going {
-        run(first, &mut space);
+        run(first, &mut rt.stdin(), &mut space);
     }
 }

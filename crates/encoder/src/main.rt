@@ -2,14 +2,17 @@
 // low byte first: the space, the tag and four numbers of the step, in the order of the record. The record goes to the front of a
 // buffer; the answer is the code, the number of bytes written and the whole buffer, which shows that the bytes behind it stay.
 #![tactic(auto)]
+
 ghost use Rattle.std.specs.Prelude.{◌+◌, ◌≤◌, length};
 
 use bits::least;
-use libc::STDOUT_FILENO;
 use model::{WideFrame, WideStep};
+use std::io::Read;
 use stream::Input;
 
 mod say; // what is said on standard error
+
+const STDOUT_FILENO: i32 = 1;
 
 const REQUEST_LENGTH: usize = 24;
 
@@ -172,11 +175,11 @@ fn flushed(p: Progress, out: &[u8]) -> Progress {
     q
 }
 
-fn read_on(p: Progress, space: &mut [u8]) -> Progress {
+fn read_on<R: Read>(p: Progress, reader: &mut R, space: &mut [u8]) -> Progress {
     if !p.going {
         return p;
     }
-    let i = stream::read_on(p.input, space);
+    let i = stream::read_on(p.input, reader, space);
     let mut q = p;
     q.input = i;
     if i.failed {
@@ -225,10 +228,10 @@ fn ended(p: Progress, left: usize) -> Progress {
 }
 
 // More is read, with all answers sent before that, or the next request is looked at.
-fn round(p: Progress, space: &mut [u8], out: &mut [u8]) -> Progress {
+fn round<R: Read>(p: Progress, reader: &mut R, space: &mut [u8], out: &mut [u8]) -> Progress {
     let i = p.input;
     if stream::wants(i, REQUEST_LENGTH) {
-        return read_on(flushed(p, out), space);
+        return read_on(flushed(p, out), reader, space);
     }
     let filled = least(i.filled, space.len());
     let place = least(i.place, filled);
@@ -239,20 +242,20 @@ fn round(p: Progress, space: &mut [u8], out: &mut [u8]) -> Progress {
     handled(p, request_in(rest), out)
 }
 
-// A loop that is proved has to end, and nothing says that the input does: the turns are counted down from a number that
-// no run uses up.
-fn run(space: &mut [u8], out: &mut [u8]) {
+// A loop that is proved has to end, and nothing says that the input does: no run uses so many turns up.
+fn run<R: Read>(reader: &mut R, space: &mut [u8], out: &mut [u8]) {
     let mut p = begun();
-    let mut turns = u64::MAX;
-    while 0 < turns && p.going {
-        p = round(p, space, out);
-        turns -= 1;
+    for _ in 0..u64::MAX {
+        if !p.going {
+            break;
+        }
+        p = round(p, reader, space, out);
     }
     flushed(p, out);
 }
 
-fn main() {
+fn main(rt: HostRuntime) {
     let mut space = io::large_buffer();
     let mut out = io::large_buffer();
-    run(&mut space, &mut out);
+    run(&mut rt.stdin(), &mut space, &mut out);
 }

@@ -1,10 +1,12 @@
 // The worked numbers of document 01, run through the functions by value and through those on a lent controller: a line for each, what
 // it is and what came out.
 #![tactic(auto)]
-use libc::STDOUT_FILENO;
+
 use model::{Controller, Errors, Fifo, Filters, Frame};
 
 mod calls;
+
+const STDOUT_FILENO: i32 = 1;
 
 fn say(text: &[u8]) {
     io::write_all(STDOUT_FILENO, text);

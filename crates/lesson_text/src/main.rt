@@ -1,12 +1,17 @@
 // The bytes of a script on standard input, its steps as the text of a lesson on standard output, both of any length: a line for each
 // record. From a record on that can't be read all bytes are told as they are. Written again the lines are the script.
 #![tactic(auto)]
+
 use account::faults::Fault;
 use bits::least;
-use libc::{STDERR_FILENO, STDOUT_FILENO};
 use model::{Reading, Step};
+use std::io::Read;
 use stream::Input;
 use text::{Line, byte, put};
+
+const STDOUT_FILENO: i32 = 1;
+
+const STDERR_FILENO: i32 = 2;
 
 // No record has more bytes, and a line no more bytes as they are.
 const LONGEST_RECORD: usize = 16;
@@ -60,11 +65,11 @@ fn flushed(p: Progress, out: &[u8]) -> Progress {
     q
 }
 
-fn read_on(p: Progress, space: &mut [u8]) -> Progress {
+fn read_on<R: Read>(p: Progress, reader: &mut R, space: &mut [u8]) -> Progress {
     if !p.going {
         return p;
     }
-    let i = stream::read_on(p.input, space);
+    let i = stream::read_on(p.input, reader, space);
     if i.failed {
         complain(b"lesson_text: standard input can't be read\n");
     }
@@ -126,10 +131,10 @@ fn next_record(p: Progress, rest: &[u8], out: &mut [u8]) -> Progress {
 // ---- the program
 
 // More is read, with all text sent before that, or the next bytes are looked at.
-fn round(p: Progress, space: &mut [u8], out: &mut [u8]) -> Progress {
+fn round<R: Read>(p: Progress, reader: &mut R, space: &mut [u8], out: &mut [u8]) -> Progress {
     let i = p.input;
     if stream::wants(i, LONGEST_RECORD) {
-        return read_on(flushed(p, out), space);
+        return read_on(flushed(p, out), reader, space);
     }
     let filled = least(i.filled, space.len());
     let place = least(i.place, filled);
@@ -140,20 +145,20 @@ fn round(p: Progress, space: &mut [u8], out: &mut [u8]) -> Progress {
     next_record(p, rest, out)
 }
 
-// A loop that is proved has to end, and nothing says that the input does: the turns are counted down from a number that
-// no run uses up.
-fn run(space: &mut [u8], out: &mut [u8]) {
+// A loop that is proved has to end, and nothing says that the input does: no run uses so many turns up.
+fn run<R: Read>(reader: &mut R, space: &mut [u8], out: &mut [u8]) {
     let mut p = begun();
-    let mut turns = u64::MAX;
-    while 0 < turns && p.going {
-        p = round(p, space, out);
-        turns -= 1;
+    for _ in 0..u64::MAX {
+        if !p.going {
+            break;
+        }
+        p = round(p, reader, space, out);
     }
     flushed(p, out);
 }
 
-fn main() {
+fn main(rt: HostRuntime) {
     let mut space = io::large_buffer();
     let mut out = io::large_buffer();
-    run(&mut space, &mut out);
+    run(&mut rt.stdin(), &mut space, &mut out);
 }

@@ -2,13 +2,18 @@
 // error says where it is, what was found there and what is allowed; then nothing more is read. With --check nothing is written and no
 // repeat is run twice; with --expects items are written, for the program trace: bytes of the script, and what its steps must answer.
 #![tactic(auto)]
+
 use bits::least;
+use command_line::Asked;
 use expected::Expected;
-use libc::STDOUT_FILENO;
 use lines::Meaning;
 use names::scan::{value, word_at};
+use std::env::Env;
+use std::io::Read;
 
 mod say; // what is said on standard error
+
+const STDOUT_FILENO: i32 = 1;
 
 const LONGEST_LINE: usize = 1000;
 
@@ -63,11 +68,11 @@ fn flushed(p: Progress, out: &[u8]) -> Progress {
     q
 }
 
-fn read_on(p: Progress, space: &mut [u8]) -> Progress {
+fn read_on<R: Read>(p: Progress, reader: &mut R, space: &mut [u8]) -> Progress {
     if !p.going {
         return p;
     }
-    let f = stream::refilled(space, p.base, p.filled);
+    let f = stream::refilled(reader, space, p.base, p.filled);
     if f.failed {
         say::say(b"lesson_write: standard input can't be read\n");
     }
@@ -267,7 +272,7 @@ fn line_length(rest: &[u8]) -> usize {
 }
 
 // The next line is looked at; where it isn't there as a whole more is read, with all bytes sent before that.
-fn round(p: Progress, space: &mut [u8], out: &mut [u8]) -> Progress {
+fn round<R: Read>(p: Progress, reader: &mut R, space: &mut [u8], out: &mut [u8]) -> Progress {
     if ENOUGH < p.waiting {
         return flushed(p, out);
     }
@@ -286,32 +291,33 @@ fn round(p: Progress, space: &mut [u8], out: &mut [u8]) -> Progress {
     if p.ended {
         return ended(p);
     }
-    read_on(flushed(p, out), space)
+    read_on(flushed(p, out), reader, space)
 }
 
-// A loop that is proved has to end, and nothing says that the input does: the turns are counted down from a number that
-// no run uses up.
-fn run(first: Progress, space: &mut [u8], out: &mut [u8]) {
+// A loop that is proved has to end, and nothing says that the input does: no run uses so many turns up.
+fn run<R: Read>(first: Progress, reader: &mut R, space: &mut [u8], out: &mut [u8]) {
     let mut p = first;
-    let mut turns = u64::MAX;
-    while 0 < turns && p.going {
-        p = round(p, space, out);
-        turns -= 1;
+    for _ in 0..u64::MAX {
+        if !p.going {
+            break;
+        }
+        p = round(p, reader, space, out);
     }
     flushed(p, out);
 }
 
 // Other arguments are told, and nothing is read.
-fn arguments() -> Progress {
-    let mut text = io::buffer();
-    let length = os::arg(1, &mut text);
-    let checks = check::same(&text[..length], b"--check");
-    let expects = check::same(&text[..length], b"--expects");
-    let n = os::arg_count();
-    let known = (n < 2) | ((n == 2) & (checks | expects));
+fn arguments(rt: &impl Env) -> Progress {
+    let checks = matches!(command_line::look_for(rt, b"--check"), Asked::Word);
+    let expects = matches!(command_line::look_for(rt, b"--expects"), Asked::Word);
+    let known = checks | expects | !command_line::is_given(rt, 1);
     if !known {
         say::say(b"usage: lesson_write [--check | --expects]\n");
     }
+    begun(checks, expects, known)
+}
+
+fn begun(checks: bool, expects: bool, known: bool) -> Progress {
     Progress {
         place: 0,
         filled: 0,
@@ -330,8 +336,8 @@ fn arguments() -> Progress {
     }
 }
 
-fn main() {
+fn main(rt: HostRuntime) {
     let mut space = io::large_buffer();
     let mut out = io::large_buffer();
-    run(arguments(), &mut space, &mut out);
+    run(arguments(&rt), &mut rt.stdin(), &mut space, &mut out);
 }

@@ -1,10 +1,11 @@
 // What is said on standard error: a line and a column, what was found there, what is allowed.
 use bits::least;
-use libc::STDERR_FILENO;
 use names::Group;
 use names::rows::{Column, NONE};
 use names::scan::{Class, byte_at, distance, run_end, word_at};
 use text::{Line, byte, put, said};
+
+const STDERR_FILENO: i32 = 2;
 
 // Rules beside those of a line by itself: lines that don't go together, and a text or a line that has no good end.
 pub(crate) const TOO_DEEP: u32 = 20;

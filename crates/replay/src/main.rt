@@ -1,10 +1,15 @@
 // Replays a bench script from standard input, of any length, and writes the replies to standard output. With --lesson it must open
 // with the record of a hardware reset.
 #![tactic(auto)]
-use libc::STDOUT_FILENO;
+
+use command_line::Asked;
 use pieces::Position;
+use std::env::Env;
+use std::io::Read;
 
 mod say;
+
+const STDOUT_FILENO: i32 = 1;
 
 // After a turn: the position, the part of the space that is not replayed yet, whether the opening is good or not asked for, and
 // whether to read on.
@@ -65,8 +70,8 @@ fn replayed(p: Progress, piece: &[u8], replies: &mut [u8], last: bool) -> Progre
 }
 
 // Reads a piece behind what is left of the one before and replays it.
-fn next(p: Progress, space: &mut [u8], replies: &mut [u8]) -> Progress {
-    let f = stream::refilled(space, p.from, p.to);
+fn next<R: Read>(p: Progress, reader: &mut R, space: &mut [u8], replies: &mut [u8]) -> Progress {
+    let f = stream::refilled(reader, space, p.from, p.to);
     if f.failed {
         let k = p.position;
         say_place(k.records, k.bytes);
@@ -83,26 +88,14 @@ fn next(p: Progress, space: &mut [u8], replies: &mut [u8]) -> Progress {
     replayed(p, &space[..n], replies, f.ended)
 }
 
-// What the arguments ask for.
-#[derive(Clone, Copy)]
-enum Asked {
-    Script,
-    Lesson,
-    Nothing,
-}
-
 // Other arguments than --lesson are told, and nothing is replayed.
-fn arguments() -> Asked {
-    if os::arg_count() < 2 {
-        return Asked::Script;
+fn arguments(rt: &impl Env) -> Asked {
+    let how = command_line::look_for(rt, b"--lesson");
+    match how {
+        Asked::Other => say::say(b"usage: replay [--lesson]\n"),
+        _ => {}
     }
-    let mut text = io::buffer();
-    let length = os::arg(1, &mut text);
-    if (os::arg_count() == 2) & check::same(&text[..length], b"--lesson") {
-        return Asked::Lesson;
-    }
-    say::say(b"usage: replay [--lesson]\n");
-    Asked::Nothing
+    how
 }
 
 fn begun(how: Asked) -> Progress {
@@ -116,22 +109,24 @@ fn begun(how: Asked) -> Progress {
         going: true,
     };
     match how {
-        Asked::Script => {}
-        Asked::Lesson => p.opened = false,
-        Asked::Nothing => p.going = false,
+        Asked::Nothing => {}
+        Asked::Word => p.opened = false,
+        Asked::Other => p.going = false,
     }
     p
 }
 
-fn main() {
+fn main(rt: HostRuntime) {
     let mut space = io::large_buffer();
     // Room for a reply to each record of three bytes and to one more.
     let mut replies = [0; 196614];
-    let mut p = begun(arguments());
+    let mut input = rt.stdin();
+    let mut p = begun(arguments(&rt));
     // A proved loop has to end, and nothing says that the input does: no run uses these turns up.
-    let mut turns = u64::MAX;
-    while turns > 0 && p.going {
-        p = next(p, &mut space, &mut replies);
-        turns -= 1;
+    for _ in 0..u64::MAX {
+        if !p.going {
+            break;
+        }
+        p = next(p, &mut input, &mut space, &mut replies);
     }
 }

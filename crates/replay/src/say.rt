@@ -1,5 +1,5 @@
 // What is said on standard error.
-use libc::STDERR_FILENO;
+const STDERR_FILENO: i32 = 2;
 
 pub(crate) fn say(text: &[u8]) {
     io::write_all(STDERR_FILENO, text);

@@ -1,11 +1,16 @@
 // Replies in words: a line for each with its number, code, interrupt lines and word. The replies come on standard input, the text
 // goes to standard output; both go in pieces.
 #![tactic(auto)]
+
 use bits::least;
-use libc::{STDERR_FILENO, STDOUT_FILENO};
 use model::{Answer, ReplyReading};
+use std::io::Read;
 use stream::Input;
 use text::{Line, put, said};
+
+const STDOUT_FILENO: i32 = 1;
+
+const STDERR_FILENO: i32 = 2;
 
 const HEADER_LENGTH: usize = 3;
 
@@ -143,11 +148,11 @@ fn flushed_if(b: bool, p: Progress, out: &[u8]) -> Progress {
     p
 }
 
-fn read_on(p: Progress, space: &mut [u8]) -> Progress {
+fn read_on<R: Read>(p: Progress, reader: &mut R, space: &mut [u8]) -> Progress {
     if !p.going {
         return p;
     }
-    let i = stream::read_on(p.input, space);
+    let i = stream::read_on(p.input, reader, space);
     if i.failed {
         complain(b"replies: standard input can't be read\n");
     }
@@ -184,10 +189,10 @@ fn broken(p: Progress, code: u8, rest: &[u8]) -> Progress {
 }
 
 // More is read, with all text sent before that, or the next reply is looked at.
-fn round(p: Progress, space: &mut [u8], out: &mut [u8]) -> Progress {
+fn round<R: Read>(p: Progress, reader: &mut R, space: &mut [u8], out: &mut [u8]) -> Progress {
     let i = p.input;
     if stream::wants(i, REPLY_LENGTH) {
-        return read_on(flushed(p, out), space);
+        return read_on(flushed(p, out), reader, space);
     }
     let filled = least(i.filled, space.len());
     let place = least(i.place, filled);
@@ -202,20 +207,20 @@ fn round(p: Progress, space: &mut [u8], out: &mut [u8]) -> Progress {
     }
 }
 
-// A loop that is proved has to end, and nothing says that the input does: the turns are counted down from a number that
-// no run uses up.
-fn run(space: &mut [u8], out: &mut [u8]) {
+// A loop that is proved has to end, and nothing says that the input does: no run uses so many turns up.
+fn run<R: Read>(reader: &mut R, space: &mut [u8], out: &mut [u8]) {
     let mut p = stored(begun(), head(), out);
-    let mut turns = u64::MAX;
-    while 0 < turns && p.going {
-        p = round(p, space, out);
-        turns -= 1;
+    for _ in 0..u64::MAX {
+        if !p.going {
+            break;
+        }
+        p = round(p, reader, space, out);
     }
     flushed(p, out);
 }
 
-fn main() {
+fn main(rt: HostRuntime) {
     let mut space = io::large_buffer();
     let mut out = io::large_buffer();
-    run(&mut space, &mut out);
+    run(&mut rt.stdin(), &mut space, &mut out);
 }

@@ -2,10 +2,16 @@
 // asks with the highest identifier; mailboxes 1 and 2 are filled again, each while the other one is on the wire. Every mark of
 // the picture is an answer of the controller. That there is such a history for every n is proved (`starvation` in the model).
 #![tactic(auto)]
-use libc::{STDERR_FILENO, STDOUT_FILENO};
+
 use model::{Controller, Step};
+use number::Numeral;
+use std::env::Env;
 
 mod number;
+
+const STDOUT_FILENO: i32 = 1;
+
+const STDERR_FILENO: i32 = 2;
 
 // The traffic through one controller: what it is after the last turn, whether mailbox 0 still waits, how many frames of others
 // ended well while it did, which mailbox was started last, TSR while its frame was on the wire, and whether every answer so
@@ -233,17 +239,21 @@ fn show(n: u32) {
     result(left, right);
 }
 
-fn main() {
+// The number that is the only argument.
+fn argument(rt: &impl Env) -> Numeral {
     let mut text = io::buffer();
-    let length = os::arg(1, &mut text);
-    let is_missing = os::errno() != 0;
-    if is_missing | (os::arg_count() != 2) {
-        complain(b"usage: starvation N, with N from 0 to 4294967295\n");
-        return;
+    if command_line::is_given(rt, 2) {
+        return Numeral::Bad;
     }
-    let p = number::parsed(&text[..length]);
-    match p {
-        number::Numeral::Bad => complain(b"usage: starvation N, with N from 0 to 4294967295\n"),
-        number::Numeral::Number(n) => show(n),
+    match rt.arg(1, &mut text) {
+        Ok(length) => number::parsed(&text[..length]),
+        Err(_) => Numeral::Bad,
+    }
+}
+
+fn main(rt: HostRuntime) {
+    match argument(&rt) {
+        Numeral::Bad => complain(b"usage: starvation N, with N from 0 to 4294967295\n"),
+        Numeral::Number(n) => show(n),
     }
 }

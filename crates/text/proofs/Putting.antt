@@ -3,7 +3,8 @@ use Rattle.std.proofs.Common.{◌≡◌, ℕ, zero, suc, ◌+◌, ◌-◌, ◌*�
 use native.Mathlib.Nat.{one-le-pow, div-eq_of_lt}
 use lib.Seq.{take-set-le}
 use Rattle.io.specs.Digits as io
-use Rattle.text.specs.Lines.{Extends, extends_refl, extends_trans, added, put_all}
+use Rattle.text.specs.Lines.{Extends, added, put_all}
+use Rattle.text.proofs.Extending.{extends_refl, extends_trans}
 use Rattle.text.specs.Numbers.{digit_at, digits, decimal_on}
 use Rattle.text.specs.declared.Line.{Line}
 
@@ -19,9 +20,9 @@ unfolding put_all
 put_extends l [] = extends_refl l
 put_extends l (b ∷ s) = extends_trans l (added l b) (put_all (added l b) s) (added_extends l b) (put_extends (added l b) s)
 
--- what is put on a line also extends it
-pub put-says : (l r : Line) (s : List ℕ) → r ≡ put_all l s → Extends l r × (r ≡ put_all l s)
-put-says l r s e = (subst (λ (x : Line). Extends l x) (sym e) (put_extends l s), e)
+-- what is put on a line extends it
+pub says_extends : (l r : Line) (s : List ℕ) → r ≡ put_all l s → Extends l r
+says_extends l r s e = subst (λ (x : Line). Extends l x) (sym e) (put_extends l s)
 
 -- ---- a text
 

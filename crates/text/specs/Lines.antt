@@ -1,6 +1,5 @@
 -- What holds of a line to which more is added. Document 01 leaves the words of a trace free.
 use Rattle.std.specs.Prelude.{◌≡◌, ℕ, ◌+◌, ◌<◌, ◌≤◌, min, List, [], ◌∷◌, ◌++◌, length, take, drop, nat_lt, slice_index, slice_set, refl}
-use Rattle.std.proofs.Common.{◌∙◌, arith}
 use Rattle.base.specs.Base.{pick}
 use Rattle.text.specs.declared.Line.{Line}
 
@@ -8,12 +7,6 @@ use Rattle.text.specs.declared.Line.{Line}
 pub record Extends (l r : Line) : Type 0 where
   pub kept : (i : ℕ) → i ≤ l.at → take i r.bytes ≡ take i l.bytes
   pub longer : l.at ≤ r.at
-
-pub extends_refl : (l : Line) → Extends l l
-extends_refl l = record { kept = λ i h. refl; longer = omega arith }
-
-pub extends_trans : (l m r : Line) → Extends l m → Extends m r → Extends l r
-extends_trans l m r a b = record { kept = λ i h. b.kept i (omega (arith, a.longer)) ∙ a.kept i h; longer = omega (arith, a.longer, b.longer) }
 
 -- a byte more, if there is room
 abbrev pub added : Line → ℕ → Line

@@ -51,6 +51,7 @@ pub fn put(l: Line, text: &[u8]) -> Line
 }
 
 // n spaces.
+#[tactic(auto, using(crate::proofs::Extending::extends_refl, crate::proofs::Extending::extends_trans))]
 fn spaces(l: Line, n: usize) -> Line
     ensures { lines.Extends l result }
 {
@@ -69,6 +70,7 @@ fn less(a: usize, b: usize) -> usize {
 }
 
 // On to a column, by two spaces at least.
+#[tactic(auto, using(crate::proofs::Extending::extends_refl, crate::proofs::Extending::extends_trans))]
 pub fn column(l: Line, to: usize) -> Line
     ensures { lines.Extends l result }
 {
@@ -100,6 +102,7 @@ pub fn decimal(l: Line, n: u64) -> Line
 }
 
 // At the right of a width.
+#[tactic(auto, using(crate::proofs::Extending::extends_refl, crate::proofs::Extending::extends_trans))]
 pub fn right(l: Line, n: u64, width: usize) -> Line
     ensures { lines.Extends l result }
 {
@@ -138,6 +141,7 @@ pub fn digits(l: Line, w: u32, k: u32) -> Line
 }
 
 // The same, told as hex digits.
+#[tactic(auto, using(crate::proofs::Extending::extends_trans))]
 pub fn hex(l: Line, w: u32, k: u32) -> Line
     ensures extends { lines.Extends l result }
     ensures value { result ≡ lines.put_all l (numbers.hex w k) }
@@ -149,6 +153,7 @@ pub fn hex(l: Line, w: u32, k: u32) -> Line
 // ---- a part of a table; each part ends with a bar
 
 // A byte, or the number in place of a percent sign.
+#[tactic(auto, using(crate::proofs::Extending::extends_refl, crate::proofs::Extending::extends_trans))]
 fn said_byte(l: Line, b: u8, n: u64) -> Line
     ensures { lines.Extends l result }
 {
@@ -159,6 +164,7 @@ fn said_byte(l: Line, b: u8, n: u64) -> Line
 }
 
 // Part `which` of a table, with the number in place of each percent sign.
+#[tactic(auto, using(crate::proofs::Extending::extends_refl, crate::proofs::Extending::extends_trans))]
 pub fn said(l: Line, table: &[u8], which: u32, n: u64) -> Line
     ensures { lines.Extends l result }
 {

@@ -2,15 +2,21 @@
 // what it changed. The script comes on standard input, the text goes to standard output; both go in pieces. With --expects the
 // input is the items of a lesson: its script, which must open with a reset, and what its steps must answer, which is checked.
 #![tactic(auto)]
+
 use account::Account;
 use account::faults::Fault;
 use bits::least;
-use libc::{STDERR_FILENO, STDOUT_FILENO};
+use command_line::Asked;
 use model::{Reading, Step};
 use names::scan::byte_at;
+use std::io::Read;
 use text::Line;
 
 mod checks; // what is expected, and what came
+
+const STDOUT_FILENO: i32 = 1;
+
+const STDERR_FILENO: i32 = 2;
 
 // An item of a lesson, as lesson_write gives it: a tag, the length of the body in two bytes, and the body; numbers have their low
 // byte first. No line of a lesson gives more than 1000 bytes. The body of what a line expects is its number in eight bytes and what
@@ -128,7 +134,7 @@ fn set(space: &mut [u8], i: usize, b: u8) {
 }
 
 // All text goes out before more is read. What is not used yet goes to the front, the script and then the input.
-fn read_on(p: Progress, space: &mut [u8], out: &[u8]) -> Progress {
+fn read_on<R: Read>(p: Progress, reader: &mut R, space: &mut [u8], out: &[u8]) -> Progress {
     let mut q = flushed(p, out);
     if !q.going {
         return q;
@@ -136,7 +142,7 @@ fn read_on(p: Progress, space: &mut [u8], out: &[u8]) -> Progress {
     let held = stream::to_front(space, p.start, p.end);
     let left = std::num::wrapping_sub_usize(p.filled, p.place);
     moved(space, p.place, held, left);
-    let f = stream::refilled(space, 0, std::num::wrapping_add_usize(held, left));
+    let f = stream::refilled(reader, space, 0, std::num::wrapping_add_usize(held, left));
     if f.failed {
         complain(b"trace: standard input can't be read\n");
     }
@@ -301,7 +307,7 @@ fn with_item(p: Progress, place: usize, n: usize, space: &mut [u8], out: &mut [u
     broken(q)
 }
 
-fn next_item(p: Progress, space: &mut [u8], out: &mut [u8]) -> Progress {
+fn next_item<R: Read>(p: Progress, reader: &mut R, space: &mut [u8], out: &mut [u8]) -> Progress {
     let filled = least(p.filled, space.len());
     let place = least(p.place, filled);
     let rest = &space[place..filled];
@@ -313,7 +319,7 @@ fn next_item(p: Progress, space: &mut [u8], out: &mut [u8]) -> Progress {
     if p.ended | (LONGEST_ITEM < n) {
         return items_ended(p, left, space, out);
     }
-    read_on(p, space, out)
+    read_on(p, reader, space, out)
 }
 
 // ---- a turn of the loop
@@ -349,7 +355,7 @@ fn front_of(p: Progress, space: &[u8]) -> Front {
 }
 
 // The next record, or else the next item; `length` says whether there is a step to be made.
-fn next(p: Progress, space: &mut [u8], out: &mut [u8]) -> Progress {
+fn next<R: Read>(p: Progress, reader: &mut R, space: &mut [u8], out: &mut [u8]) -> Progress {
     let x = front_of(p, space);
     let mut q = p;
     q.length = 0;
@@ -357,7 +363,7 @@ fn next(p: Progress, space: &mut [u8], out: &mut [u8]) -> Progress {
         return flushed(q, out);
     }
     if p.stopped | (!p.whole & (x.length == 0) & ((x.code == 0) | (x.code == 6))) {
-        return next_item(q, space, out);
+        return next_item(q, reader, space, out);
     }
     if x.length == 0 {
         return stop(q, x.code, space, out);
@@ -401,15 +407,15 @@ fn told(p: Progress, e: Step, a: Account, space: &[u8], out: &mut [u8]) -> Progr
     checks::kept_checked(r, space, out)
 }
 
-// A loop that is proved has to end, and nothing says that the input does: the turns are counted down from a number that
-// no run uses up.
-fn run(first: Progress, space: &mut [u8], out: &mut [u8]) {
+// A loop that is proved has to end, and nothing says that the input does: no run uses so many turns up.
+fn run<R: Read>(first: Progress, reader: &mut R, space: &mut [u8], out: &mut [u8]) {
     let mut z = controller::reset();
     let mut p = stored(first, wording::head(), out);
-    let mut turns = u64::MAX;
-    while 0 < turns && p.going {
-        turns -= 1;
-        p = next(p, space, out);
+    for _ in 0..u64::MAX {
+        if !p.going {
+            break;
+        }
+        p = next(p, reader, space, out);
         let e = step_of(p, space);
         let a = controller::step(z, e);
         let x = account::account_of(z, e, a);
@@ -453,16 +459,16 @@ fn begun(lesson: bool) -> Progress {
 }
 
 // Other arguments are told, and nothing is traced.
-fn main() {
-    let mut argument = io::buffer();
-    let length = os::arg(1, &mut argument);
-    let lesson = check::same(&argument[..length], b"--expects");
-    let n = os::arg_count();
-    if (2 < n) | ((n == 2) & !lesson) {
-        complain(b"usage: trace [--expects]\n");
-        return;
-    }
+fn main(rt: HostRuntime) {
+    let lesson = match command_line::look_for(&rt, b"--expects") {
+        Asked::Nothing => false,
+        Asked::Word => true,
+        Asked::Other => {
+            complain(b"usage: trace [--expects]\n");
+            return;
+        }
+    };
     let mut space = io::large_buffer();
     let mut out = io::large_buffer();
-    run(begun(lesson), &mut space, &mut out);
+    run(begun(lesson), &mut rt.stdin(), &mut space, &mut out);
 }

@@ -1,8 +1,13 @@
 // Hex text on standard input, its bytes on standard output. At a fault nothing more is written, and a line on standard error
 // says where it is and what is wrong.
 #![tactic(auto)]
+
 use hex_text::{Fault, Place, Reader};
-use libc::{STDERR_FILENO, STDOUT_FILENO};
+use std::io::Read;
+
+const STDOUT_FILENO: i32 = 1;
+
+const STDERR_FILENO: i32 = 2;
 
 fn say(text: &[u8]) {
     io::write_all(STDERR_FILENO, text);
@@ -75,31 +80,30 @@ fn written(r: Reader, text: &mut [u8]) -> Round {
     }
 }
 
-fn read_some(r: Reader) -> Round {
+fn read_some<R: Read>(r: Reader, input: &mut R) -> Round {
     let mut buf = io::large_buffer();
-    let got = libc::read(0, &mut buf);
-    if got < 0 {
-        say(b"standard input can't be read\n");
-        return over(r);
+    match input.read(&mut buf) {
+        Ok(0) => {
+            goes_on(hex_text::ended(r));
+            over(r)
+        }
+        Ok(n) => written(r, &mut buf[..n]),
+        Err(_) => {
+            say(b"standard input can't be read\n");
+            over(r)
+        }
     }
-    if got == 0 {
-        goes_on(hex_text::ended(r));
-        return over(r);
-    }
-    let n = io::count(got, &buf);
-    written(r, &mut buf[..n])
 }
 
-// A proved loop has to end, and nothing says that the input does; so the turns count down from a number that no run uses up.
-fn main() {
+// A proved loop has to end, and nothing says that the input does: no run uses so many turns up.
+fn main(rt: HostRuntime) {
+    let mut input = rt.stdin();
     let mut r = hex_text::start();
-    let mut turns = u64::MAX;
-    while turns > 0 {
-        let x = read_some(r);
+    for _ in 0..u64::MAX {
+        let x = read_some(r, &mut input);
         if !x.more {
             return;
         }
         r = x.reader;
-        turns -= 1;
     }
 }

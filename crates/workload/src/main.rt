@@ -1,8 +1,10 @@
 // A workload for measuring: after set-up, a hundred thousand received frames and nothing else; or, with any argument, as many
 // accepted register accesses. `step` is called at one place, as a replay does.
 #![tactic(auto)]
-use libc::STDOUT_FILENO;
+
 use model::{Frame, Step};
+
+const STDOUT_FILENO: i32 = 1;
 
 // Eight active banks, two of each class, one of the two for each FIFO; then Normal.
 fn set_up(i: u32) -> Step {
@@ -64,8 +66,8 @@ fn next(registers: bool, i: u32) -> Step {
     Step::Receive(frame(i))
 }
 
-fn main() {
-    let registers = 1 < os::arg_count();
+fn main(rt: HostRuntime) {
+    let registers = command_line::is_given(&rt, 1);
     let mut z = controller::reset();
     let mut words: u32 = 0;
     let mut refused: u32 = 0;
