@@ -104,10 +104,8 @@ fn decimal(n: u32) {
 
 // Blanks up to a width of ten.
 fn pad(from: usize) {
-    let mut width = from;
-    while width < 10 {
+    for _ in from..10 {
         say(b" ");
-        width += 1;
     }
 }
 
@@ -224,10 +222,9 @@ fn show(n: u32) {
     let last = at_least_three(n);
     let mut left = opened(false);
     let mut right = opened(true);
-    let mut k: u32 = 0;
     head();
-    while k < last {
-        k += 1;
+    for before in 0..last {
+        let k = before + 1;
         left = turn(left);
         right = turn(right);
         if !left.good | !right.good | !left.waits {

@@ -9,6 +9,7 @@ pub enum Numeral {
 }
 
 // One digit more.
+#[tactic(auto, unfolding(crate::specs::Number::with_digit))]
 fn with_digit(n: u32, c: u8) -> Numeral
     ensures { result ≡ numbers.with_digit n c }
 {
@@ -26,6 +27,7 @@ fn with_digit(n: u32, c: u8) -> Numeral
     Numeral::Number(all as u32)
 }
 
+#[tactic(auto, unfolding(crate::specs::Number::next))]
 fn next(p: Numeral, c: u8) -> Numeral
     ensures { result ≡ numbers.next p c }
 {
@@ -43,10 +45,8 @@ pub fn parsed(text: &[u8]) -> Numeral
         return Numeral::Bad;
     }
     let mut p = Numeral::Number(0);
-    let mut i: usize = 0;
-    while i < text.len() {
-        p = next(p, text[i]);
-        i += 1;
+    for c in text {
+        p = next(p, *c);
     }
     p
 }
