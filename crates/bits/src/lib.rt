@@ -1,5 +1,6 @@
 // Bits of words, flags as numbers, and choices between numbers.
 #![tactic(auto)]
+
 ghost use Rattle.std.specs.Prelude.{◌≡◌, ◌<◌, ◌≤◌, min};
 ghost use Rattle.base.specs.Base as base;
 

@@ -1,5 +1,5 @@
 -- With INRQ and SLEEP equal the mode rule changes nothing; where SLEEP is set, MCR is at least 2.
-use Rattle.std.proofs.Common.{◌≡◌, ℕ, ◌/◌, ◌%◌, ◌^◌, ◌≤◌, Bool, true, false, not, ◌&&◌, ◌||◌, sym, refl, arith, eqb-true}
+use Rattle.std.proofs.Common.{◌≡◌, ℕ, ◌/◌, ◌%◌, ◌^◌, ◌≤◌, Bool, true, false, not, ◌&&◌, ◌||◌, refl, arith, eqb-true}
 use mathlib.Core.Bool.{beq, false≢true, and-true, or-false, and-not_self}
 use Rattle.base.specs.Base.{pick, bit}
 use Rattle.model.specs.Control.{inrq, sleep, is_sleep, mode_next, entered, settled}

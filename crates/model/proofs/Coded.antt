@@ -11,7 +11,7 @@ use Rattle.model.specs.Control as control
 use Rattle.model.specs.Registers.{register_at, is_absent, write_refusal, is_free}
 use Rattle.model.specs.Step.{step, answered, core_after, banks_after, refusal, may_start, may_end, may_receive, receive_error_in_range}
 use Rattle.model.specs.Codes.{can_start, can_receive, not_mapped, writes_output, is_output, is_locked, writes_locked, out_of_range, cannot_be, Codes, Refused}
-use Rattle.model.specs.Shown.{txm, lbkm}
+use Rattle.model.specs.Shown.{txm}
 use Rattle.model.specs.declared.Bank.{Bank}
 use Rattle.model.specs.declared.Controller.{Controller}
 use Rattle.model.specs.declared.Register.{Register}

@@ -6,7 +6,7 @@ use mathlib.Core.Logic.{◌⊎◌, inl, inr}
 use Prim.Native.Nat.{ℕ, ◌≤◌, ◌+◌}
 use native.Mathlib.Omega.{arith}
 use Rattle.base.specs.Base.{one}
-use Rattle.model.specs.Queue.{flag, holds, joined}
+use Rattle.model.specs.Queue.{flag, holds}
 use Rattle.model.specs.Control.{txfp, control_reset}
 use Rattle.model.specs.Registers.{reset, register_at, control_register}
 use Rattle.model.specs.Step.{step, answered, refusal}

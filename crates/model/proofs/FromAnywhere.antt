@@ -13,7 +13,7 @@ use Rattle.model.specs.Reachable.{StepRange, StepsRange}
 use Rattle.model.specs.History.{Tied}
 use Rattle.model.specs.Script.{body_length, decoded, reading, record_at, replayed, begun, after_record, advanced, times, replay, steps_by, steps_from, steps_of}
 use Rattle.model.specs.Records.{Bytes, step_fields, FitWidths, AllFit}
-use Rattle.model.specs.Scripts.{behind, answered_steps}
+use Rattle.model.specs.Scripts.{answered_steps}
 use Rattle.model.specs.Anywhere.{OfCallers, OfScripts, FromState, HardwareReset, BehindReset, opened, OpensWithReset}
 use Rattle.model.specs.declared.Controller.{Controller}
 use Rattle.model.specs.declared.Reading.{Reading}

@@ -4,7 +4,6 @@ use mathlib.Core.Path.{◌≡◌, refl, ap, ◌∙◌}
 use Prim.Native.Nat.{ℕ, ◌+◌}
 use Rattle.base.specs.Base.{bit, one}
 use Rattle.model.specs.Queue.{holds, is_empty}
-use Rattle.model.specs.Mailboxes.{tme}
 use Rattle.model.specs.Control.{is_sleep, is_initialization, is_normal}
 use Rattle.model.specs.Control as control
 use Rattle.model.specs.Registers.{has_request, is_free}

@@ -9,7 +9,7 @@ use lib.ListN.{length, drop, length-append, length-drop}
 use lib.Seq.{take-append_seam, drop-append_seam}
 use borrow.Author.Tests.{ltb-false, leb-true, leb-false, lt-leb, le-leb, ne_eqb}
 use Rattle.base.specs.Base.{pick}
-use Rattle.model.specs.Step.{answered, step}
+use Rattle.model.specs.Step.{step}
 use Rattle.model.specs.Script.{byte_at, body_length, reading, reading_code, reply, stayed, at_end, passed, replayed, record_at, reply_of, overwritten, stops}
 use Rattle.model.specs.Records.{step_numbers, reading_numbers}
 use Rattle.model.specs.Scripts.{is_end, no_space, header_short, tag_unknown, length_wrong, body_short, behind, step_at, ReadingCodes, Unchanged, Answers, Overwrites, RecordCodes}

@@ -13,7 +13,7 @@ use borrow.Author.Tests.{eq-eqb, le-ltb, lt-leb, ltb-false, leb-true, eqb-true, 
 use Rattle.base.specs.Base.{pick}
 use Rattle.model.specs.Script.{byte_at, number16, is_tag, body_length, step_of, step_tag, step_values, decoded, part, reading, steps_by, steps_from, steps_of, reply}
 use Rattle.model.specs.Scripts.{is_end, header_short, tag_unknown, length_wrong, body_short, behind, step_at}
-use Rattle.model.specs.Records.{bytes_of, number_of, Bytes, Field, step_fields, FitWidths, field_bytes, step_body, record_of, step_numbers, reading_numbers, NumbersApart, Tags, RecordSays, IsRecord, RecordStands, script_of, AllFit, ScriptSays, sample_steps, Samples, ReplySays}
+use Rattle.model.specs.Records.{bytes_of, number_of, Bytes, Field, step_fields, FitWidths, field_bytes, step_body, record_of, reading_numbers, NumbersApart, Tags, RecordSays, IsRecord, RecordStands, script_of, AllFit, ScriptSays, sample_steps, Samples, ReplySays}
 use Rattle.model.specs.declared.Reading.{Reading}
 use Rattle.model.specs.declared.Reading.TheVariants.{End, Malformed, Found}
 use Rattle.model.specs.declared.Step as steps

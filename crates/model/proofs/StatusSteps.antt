@@ -17,7 +17,7 @@ use Rattle.model.specs.Codes.{offset_of}
 use Rattle.model.specs.Requests.{Event, nothing, event, entry}
 use Rattle.model.specs.Reachable.{distinct, carried, QueueRange, InRange}
 use Rattle.model.specs.ReadBack.{Accepts, after_write, has}
-use Rattle.model.specs.Arbitration.{requests, on_wire, is_pending}
+use Rattle.model.specs.Arbitration.{on_wire, is_pending}
 use Rattle.model.specs.TransmitStatus.{except, asks_abort, TsrWrite, TiWrite, Dropped, ends_request, after_end, OwnEnd, concerns, FlagsStay, RequestsStay}
 use Rattle.model.specs.declared.Mailbox.{Mailbox}
 use Rattle.model.specs.declared.Mailbox.TheVariants.{M0, M1, M2}

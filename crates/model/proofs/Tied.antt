@@ -5,7 +5,7 @@ use Prim.Native.Nat.{ℕ, ◌%◌}
 use lib.Dec.{ltb}
 use Rattle.base.specs.Base.{bit, bits}
 use Rattle.model.specs.Reception.{output}
-use Rattle.model.specs.Control.{boff, control_reset}
+use Rattle.model.specs.Control.{control_reset}
 use Rattle.model.specs.Registers.{reset, fifo_of}
 use Rattle.model.specs.Requests.{after}
 use Rattle.model.specs.Reachable.{InRange, StepsRange}

@@ -9,7 +9,6 @@ use Rattle.model.specs.Scripts.{is_end, no_space, Unchanged, Overwrites, last_an
 use Rattle.model.specs.Records.{Bytes, record_of, opening}
 use Rattle.model.specs.declared.Controller.{Controller}
 use Rattle.model.specs.declared.Replayed.{Replayed}
-use Rattle.model.specs.declared.Step as steps
 use Rattle.model.specs.declared.Step.TheVariants.{Reset}
 
 -- ---- the opening

@@ -1,5 +1,4 @@
 use Rattle.model.specs.Control.{btr_written}
-use Rattle.std.proofs.Common.{rules}
 use Rattle.control.proofs.btr_written.Goals as goal
 
 pub returns : goal.returns

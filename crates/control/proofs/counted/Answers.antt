@@ -1,6 +1,5 @@
 -- The count of idles and the flag of re-initialization, by the idle that counts and the one that recovers.
 use Rattle.model.specs.Control.{recovers, counted}
-use Rattle.std.proofs.Common.{rules}
 use Rattle.control.proofs.Counting.{idle_counts-joined}
 use Rattle.control.proofs.counted.Goals as goal
 

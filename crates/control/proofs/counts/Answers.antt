@@ -1,5 +1,4 @@
 -- Each factor is what its function ensures.
-use Rattle.std.proofs.Common.{rules}
 use Rattle.control.proofs.counts.Goals as goal
 
 pub returns : goal.returns

@@ -1,5 +1,4 @@
 use Rattle.model.specs.Control.{entered}
-use Rattle.std.proofs.Common.{rules}
 use Rattle.control.proofs.entered.Goals as goal
 
 pub returns : goal.returns

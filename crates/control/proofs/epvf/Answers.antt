@@ -1,4 +1,3 @@
-use Rattle.std.proofs.Common.{rules}
 use Rattle.control.proofs.epvf.Goals as goal
 
 pub returns : goal.returns

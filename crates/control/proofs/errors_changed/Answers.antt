@@ -1,6 +1,5 @@
 -- Each flag of the error state, before and after, is what its function ensures of the counters.
 use Rattle.model.specs.Control.{errors_changed}
-use Rattle.std.proofs.Common.{rules}
 use Rattle.control.proofs.errors_changed.Goals as goal
 
 pub returns : goal.returns

@@ -1,6 +1,5 @@
 -- Each flag of the error state is what its function ensures of the counters.
 use Rattle.model.specs.Control.{esr_word}
-use Rattle.std.proofs.Common.{rules}
 use Rattle.control.proofs.esr_word.Goals as goal
 
 pub returns : goal.returns

@@ -1,5 +1,4 @@
 use Rattle.model.specs.Control.{esr_written}
-use Rattle.std.proofs.Common.{rules}
 use Rattle.control.proofs.esr_written.Goals as goal
 
 pub returns : goal.returns

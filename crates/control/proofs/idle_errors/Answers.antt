@@ -1,6 +1,5 @@
 -- Both counters are cleared by the idle that recovers.
 use Rattle.model.specs.Control.{recovers, idle_errors}
-use Rattle.std.proofs.Common.{rules}
 use Rattle.control.proofs.Counting.{idle_counts-joined}
 use Rattle.control.proofs.idle_errors.Goals as goal
 

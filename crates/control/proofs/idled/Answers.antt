@@ -1,6 +1,5 @@
 -- The mode is entered with the idle counted.
 use Rattle.model.specs.Control.{idled}
-use Rattle.std.proofs.Common.{rules}
 use Rattle.control.proofs.idled.Goals as goal
 
 pub returns : goal.returns

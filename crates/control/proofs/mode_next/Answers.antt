@@ -1,5 +1,4 @@
 use Rattle.model.specs.Control.{mode_next}
-use Rattle.std.proofs.Common.{rules}
 use Rattle.control.proofs.mode_next.Goals as goal
 
 pub returns-then-init-slp : goal.returns-then-init-slp

@@ -1,5 +1,4 @@
 use Rattle.model.specs.Control.{msr_written}
-use Rattle.std.proofs.Common.{rules}
 use Rattle.control.proofs.msr_written.Goals as goal
 
 pub returns : goal.returns

@@ -1,5 +1,5 @@
 use Rattle.model.specs.Control.{outcome_errors}
-use Rattle.std.proofs.Common.{rules, eq-eqb, ne_eqb}
+use Rattle.std.proofs.Common.{eq-eqb, ne_eqb}
 use Rattle.control.proofs.outcome_errors.Goals as goal
 
 pub returns-then-r-eq0 : goal.returns-then-r-eq0

@@ -1,5 +1,5 @@
 use Rattle.model.specs.Control.{rec_plus}
-use Rattle.std.proofs.Common.{rules, le-ltb, lt-ltb}
+use Rattle.std.proofs.Common.{le-ltb, lt-ltb}
 use Rattle.control.proofs.rec_plus.Goals as goal
 
 pub returns-then-n-x : goal.returns-then-n-x

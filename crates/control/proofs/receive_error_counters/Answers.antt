@@ -1,5 +1,4 @@
 use Rattle.model.specs.Control.{receive_error_counters}
-use Rattle.std.proofs.Common.{rules}
 use Rattle.control.proofs.receive_error_counters.Goals as goal
 
 pub returns : goal.returns

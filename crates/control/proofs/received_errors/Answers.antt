@@ -1,5 +1,4 @@
 use Rattle.model.specs.Control.{received_errors}
-use Rattle.std.proofs.Common.{rules}
 use Rattle.control.proofs.received_errors.Goals as goal
 
 pub returns : goal.returns

@@ -1,5 +1,4 @@
 use Rattle.model.specs.Control.{settled}
-use Rattle.std.proofs.Common.{rules}
 use Rattle.control.proofs.Settling.{settled-stays}
 use Rattle.control.proofs.settled.Goals as goal
 

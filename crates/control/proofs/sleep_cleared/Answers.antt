@@ -1,4 +1,4 @@
-use Rattle.std.proofs.Common.{sym, ◌∙◌, rules}
+use Rattle.std.proofs.Common.{sym, ◌∙◌}
 use Rattle.control.proofs.Settling.{two_or_more_lem}
 use Rattle.control.proofs.sleep_cleared.Goals as goal
 

@@ -1,5 +1,4 @@
 use Rattle.model.specs.Control.{ticked}
-use Rattle.std.proofs.Common.{rules}
 use Rattle.control.proofs.ticked.Goals as goal
 
 pub returns : goal.returns

@@ -1,5 +1,4 @@
 use Rattle.model.specs.Control.{woken}
-use Rattle.std.proofs.Common.{rules}
 use Rattle.control.proofs.woken.Goals as goal
 
 pub returns : goal.returns

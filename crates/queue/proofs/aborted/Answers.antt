@@ -1,4 +1,3 @@
-use borrow.Author.Rules.{rules}
 use Rattle.model.specs.Queue.{aborted}
 use Rattle.queue.proofs.aborted.Goals as goal
 

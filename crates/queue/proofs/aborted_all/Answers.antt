@@ -1,4 +1,3 @@
-use borrow.Author.Rules.{rules}
 use Rattle.model.specs.Queue.{aborted_all}
 use Rattle.queue.proofs.aborted_all.Goals as goal
 

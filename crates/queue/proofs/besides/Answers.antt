@@ -1,4 +1,3 @@
-use borrow.Author.Rules.{rules}
 use Rattle.queue.proofs.besides.Goals as goal
 
 pub returns-in-From : goal.returns-in-From

@@ -1,4 +1,3 @@
-use borrow.Author.Rules.{rules}
 use Rattle.queue.proofs.emptied.Goals as goal
 
 pub returns : goal.returns

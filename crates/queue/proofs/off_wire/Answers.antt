@@ -1,4 +1,3 @@
-use borrow.Author.Rules.{rules}
 use Rattle.model.specs.Queue.{off_wire}
 use Rattle.queue.proofs.off_wire.Goals as goal
 

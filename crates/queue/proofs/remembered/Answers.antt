@@ -1,4 +1,3 @@
-use borrow.Author.Rules.{rules}
 use Rattle.queue.proofs.remembered.Goals as goal
 
 pub returns : goal.returns

@@ -1,4 +1,3 @@
-use borrow.Author.Rules.{rules}
 use Rattle.queue.proofs.requested_if.Goals as goal
 
 pub returns-then-b : goal.returns-then-b

@@ -4,7 +4,6 @@ use native.Mathlib.Nat.{add-zero}
 use Rattle.model.specs.Script.{body_length, decoded, reading}
 use Rattle.records.proofs.Headers.{by_header, no_tag}
 use borrow.Author.Tests.{eq-eqb, ne_eqb, lt-ltb, le-ltb, le-leb, lt-leb}
-use borrow.Author.Rules.{rules}
 use Rattle.records.proofs.reading.Goals as goal
 
 pub returns-then-n-place : goal.returns-then-n-place

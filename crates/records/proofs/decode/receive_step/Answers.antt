@@ -1,5 +1,4 @@
 -- The frame field by field.
-use borrow.Author.Rules.{rules}
 use Rattle.records.proofs.decode.receive_step.Goals as goal
 
 pub returns : goal.returns
