@@ -1,5 +1,6 @@
 // The model for C (include/bxcan.h): each call takes a board, the bytes of a state that the caller lends, and numbers of 32 bits.
 #![tactic(auto)]
+
 ghost use Rattle.std.specs.Prelude.{◌≡◌};
 ghost use Rattle.model.specs.Shown as shown;
 ghost use Rattle.model.specs.declared.Step.TheVariants as steps;

@@ -1,5 +1,6 @@
 // A script that is read in pieces: the replay of one piece, what of its replies is sent, and what is left of it.
 #![tactic(auto)]
+
 ghost use Rattle.std.specs.Prelude.{◌≡◌, ◌*◌, ◌≤◌, length};
 ghost use Rattle.base.specs.Base as base;
 ghost use Rattle.model.specs.Scripts as scripts;
