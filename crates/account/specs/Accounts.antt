@@ -1,5 +1,4 @@
 -- What there is to say of a step. a is what the step gives.
-use Rattle.std.specs.Prelude.{List}
 use Rattle.model.specs.Registers.{register_at}
 use Rattle.account.specs.Accesses.{offset_of}
 use Rattle.model.specs.declared.Controller.{Controller}

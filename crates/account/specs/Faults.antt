@@ -1,5 +1,5 @@
 -- What is wrong with a record that can't be read. Document 01: "Bench script", codes 6, 7 and 8 of "Refusal numbers".
-use Rattle.std.specs.Prelude.{Bool, true, false, not, ◌&&◌, List, ℕ, ◌+◌, ◌-◌, ◌*◌, eqb, ltb, leb, length, get_or}
+use Rattle.std.specs.Prelude.{List, ℕ, ◌-◌, eqb, ltb, leb, length}
 use Rattle.base.specs.Base.{pick, one}
 use Rattle.model.specs.Script.{body_length, number16, byte_at}
 use Rattle.account.specs.declared.faults.Fault.{Fault}

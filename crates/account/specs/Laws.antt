@@ -2,7 +2,7 @@
 -- the code that is given and is true, and what is said of a record that can't be read is true.
 -- Document 01: "Register map", "Refusal numbers", "Bench script".
 use Rattle.std.specs.Prelude.{◌≡◌, Bool, true, false, not, ◌&&◌, ◌||◌, List, [], ◌∷◌, ℕ, ◌+◌, ◌*◌, ◌%◌, eqb, ltb, leb, length, get_or}
-use Rattle.base.specs.Base.{pick, bit, bits}
+use Rattle.base.specs.Base.{bit, bits}
 use Rattle.model.specs.Queue.{is_empty}
 use Rattle.model.specs.Control.{is_sleep, is_normal, epvf, boff, lbkm, silm}
 use Rattle.model.specs.Registers.{register_at, is_absent, is_free, write_refusal}

@@ -1,10 +1,9 @@
 -- What is looked at of the state before and after a step, and where its frame went.
-use Rattle.std.specs.Prelude.{Bool, true, false, not, List, [], ◌∷◌, ◌≡◌, ℕ, ◌/◌, ◌%◌, ◌<◌, eqb, get_or}
+use Rattle.std.specs.Prelude.{Bool, false, not, List, [], ◌∷◌, ◌≡◌, ℕ, ◌/◌, ◌%◌, ◌<◌, eqb, get_or}
 use Rattle.base.specs.Base.{pick, one}
 use Rattle.model.specs.Queue.{holds, is_from}
 use Rattle.model.specs.Registers.{read_word, bank_count}
 use Rattle.model.specs.Search.{acceptance}
-use Rattle.model.specs.Shown.{fifo_number}
 use Rattle.model.specs.declared.Mailbox.{Mailbox}
 use Rattle.model.specs.declared.Mailbox.TheVariants.{M0, M1, M2}
 use Rattle.model.specs.declared.Fifo.TheVariants.{F0, F1}

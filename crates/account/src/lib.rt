@@ -1,6 +1,7 @@
 // What there is to say of a step, in numbers: its register, why it is refused, which filter took its frame, and the state
 // before and after it. The words are another crate's.
 #![tactic(auto)]
+
 ghost use Rattle.std.specs.Prelude.{◌≡◌};
 ghost use Rattle.account.specs.Accounts as accounts;
 ghost use Rattle.account.specs.Views as views;

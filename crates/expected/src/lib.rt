@@ -1,5 +1,6 @@
 // What a step of a lesson must answer, and whether an answer is that.
 #![tactic(auto)]
+
 ghost use Rattle.std.specs.Prelude.{◌≡◌};
 ghost use Rattle.expected.specs.Holds as expectations;
 

@@ -1,5 +1,5 @@
 -- What a line can mean, and where it is no line of a lesson.
-use Rattle.std.specs.Prelude.{Bool, ◌&&◌, ◌||◌, not, List, [], ◌∷◌, ℕ, ◌%◌, ◌^◌, eqb, ltb, leb}
+use Rattle.std.specs.Prelude.{List, [], ◌∷◌, ℕ, ◌%◌, ◌^◌, ltb, leb}
 use Rattle.base.specs.Base.{pick, one}
 use Rattle.model.specs.Writer.{wide_numbers}
 use Rattle.names.specs.Scan.{word_at}

@@ -1,5 +1,6 @@
 // What a line of a lesson means: docs/LESSONS.md.
 #![tactic(auto)]
+
 ghost use Rattle.std.specs.Prelude.{◌≡◌};
 ghost use Rattle.lines.specs.Meanings as meanings;
 ghost use Rattle.lines.specs.Lines as lines;

@@ -1,5 +1,6 @@
 // Registers, fields and the words of a lesson by name: the one table of names, and how a word of a text is looked up in it.
 #![tactic(auto)]
+
 ghost use Rattle.std.specs.Prelude.{◌≡◌};
 ghost use Rattle.names.specs.Table as tables;
 

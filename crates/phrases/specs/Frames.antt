@@ -1,5 +1,5 @@
 -- A frame as text: docs/LESSONS.md, "Steps", FRAME, and "From bytes to text".
-use Rattle.std.specs.Prelude.{Bool, true, false, not, ◌&&◌, List, [], ◌∷◌, ◌++◌, ℕ, ◌+◌, ◌-◌, ◌/◌, ◌^◌, eqb, ltb, leb, take, drop}
+use Rattle.std.specs.Prelude.{Bool, true, false, not, ◌&&◌, List, [], ◌∷◌, ◌++◌, ℕ, ◌-◌, ◌/◌, ◌^◌, eqb, ltb, leb, take, drop}
 use Rattle.base.specs.Base.{pick, bit}
 use Rattle.model.specs.Records.{record_of}
 use Rattle.model.specs.Reception.{malformed, data_bytes, bytes_kept}

@@ -1,5 +1,6 @@
 // A step as a line of lesson text: docs/LESSONS.md, "From bytes to text". All names come from the table of crate names.
 #![tactic(auto)]
+
 ghost use Rattle.std.specs.Prelude.{◌≡◌, ◌%◌, ◌^◌};
 ghost use Rattle.names.specs.Rows as rows;
 ghost use Rattle.text.specs.Lines as lines;

@@ -1,5 +1,6 @@
 // Replies read back: code, lines and word of a reply.
 #![tactic(auto)]
+
 ghost use Rattle.std.specs.Prelude.{◌≡◌};
 ghost use Rattle.model.specs.Replies as reading;
 

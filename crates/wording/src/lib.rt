@@ -1,5 +1,6 @@
 // The lines of a trace: a step, its answer, the interrupt lines that are up and what it changed, in words.
 #![tactic(auto)]
+
 ghost use Rattle.text.specs.Lines as lines;
 
 use account::Account;

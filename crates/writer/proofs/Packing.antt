@@ -1,7 +1,7 @@
 -- The record of each step as a number.
 use mathlib.Core.Bool.{true, ◌&&◌, and-true}
 use mathlib.Core.Path.{◌≡◌, refl, sym, ap, ◌∙◌}
-use mathlib.Core.List.{List, [], ◌∷◌, ◌++◌}
+use mathlib.Core.List.{List, ◌∷◌, ◌++◌}
 use Prim.Native.Nat.{ℕ, zero, suc, ◌+◌, ◌*◌, ◌/◌, ◌%◌, ◌^◌, ◌<◌}
 use native.Mathlib.Nat.{pow-suc, mul_assoc}
 use native.Mathlib.Omega.{arith}
@@ -12,7 +12,6 @@ use Rattle.model.specs.declared.Frame.{Frame}
 use Rattle.model.specs.declared.Step.TheVariants.{Reset, Read, Write, Idle, BitTimes, Activity, Start, Outcome, Receive, ReceiveError}
 use Rattle.base.proofs.Choices.{and_l, and_r}
 use Rattle.writer.specs.Packing.{Packs}
-use Rattle.writer.specs.declared.Packed.{Packed}
 
 -- the bytes of a number behind those of another
 joined : (a b k x y : ℕ) → k ≡ a + b → x < 256 ^ a → bytes_of k (x + y * 256 ^ a) ≡ bytes_of a x ++ bytes_of b y

@@ -1,5 +1,6 @@
 // Bench scripts written: a step to its record in a lent space.
 #![tactic(auto)]
+
 ghost use Rattle.std.specs.Prelude.{◌≡◌, length};
 ghost use Rattle.model.specs.Script as scripts;
 ghost use Rattle.model.specs.Writer as writer;

@@ -1,0 +1,27 @@
+use mathlib.Core.Path.{◌∙◌, ap}
+use native.Mathlib.Omega.{arith}
+use Rattle.names.specs.declared.Span.{Span}
+use Rattle.phrases.specs.Names.{fields_of, with_fields, said_of}
+use Rattle.phrases.proofs.Putting.{fields_begin, fields_on_lem, fields-ended, all_said}
+use Rattle.phrases.proofs.all_fields.Goals as goal
+
+pub loop-k-init : goal.loop-k-init
+loop-k-init c = fields_begin _ _ _ _
+
+pub overflow_add-k : goal.overflow_add-k
+overflow_add-k c = omega arith
+
+pub loop-k-smaller : goal.loop-k-smaller
+loop-k-smaller c = omega arith
+
+pub loop-k-preserved : goal.loop-k-preserved
+loop-k-preserved c =
+    let x = c.rows_of-x.result in
+    fields_on_lem c.loop-k.t _ _ x.first c.loop-k.k x.count _ c.loop-k-test.true c.with_row-t.ensures c.loop-k.invariant
+
+pub returns : goal.returns
+unfolding said_of fields_of
+returns c =
+    let x = c.rows_of-x.result in
+    let e = rw c.register_at-f.ensures at c.rows_of-x.ensures in
+    fields-ended c.loop-k.t _ _ x.first c.loop-k.k x.count c.loop-k-test.false c.loop-k.invariant ∙ (ap (λ (y : Span). with_fields (record { line = c.args.l; rest = c.args.w }) (fields_of y) c.args.w) e ∙ all_said _ _ _)
