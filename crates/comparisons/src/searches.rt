@@ -12,6 +12,7 @@ pub enum Searched {
 }
 
 // Loopback: the frame of the mailbox on the wire ended with result r.
+#[tactic(auto, unfolding(crate::specs::Searches::looped_word))]
 fn looped_word(s: Sender, c: Core, r: u8) -> Searched
     ensures { result ≡ searches.looped_word s c r }
 {
@@ -30,6 +31,7 @@ fn looped_word(s: Sender, c: Core, r: u8) -> Searched
     }
 }
 
+#[tactic(auto, unfolding(crate::specs::Searches::accepted_word))]
 fn accepted_word(c: Core, e: Step) -> Searched
     ensures { result ≡ searches.accepted_word c e }
 {
@@ -52,6 +54,7 @@ fn accepted_word(c: Core, e: Step) -> Searched
 }
 
 // c is the controller before the step, code the step's code.
+#[tactic(auto, unfolding(crate::specs::Searches::searched_word))]
 pub fn searched_word(c: Core, e: Step, code: u8) -> Searched
     ensures { result ≡ searches.searched_word c e code }
 {
