@@ -241,9 +241,7 @@ fn stop(p: Progress, code: u8, space: &[u8], out: &mut [u8]) -> Progress {
 // A number of so many bytes from a place on.
 fn number(s: &[u8], at: usize, count: usize) -> u64 {
     let mut n: u64 = 0;
-    let mut k = count;
-    while 0 < k {
-        k -= 1;
+    for k in (0..count).rev() {
         let b = byte_at(s, std::num::wrapping_add_usize(at, k));
         n = n % 72057594037927936 * 256 + b as u64;
     }
