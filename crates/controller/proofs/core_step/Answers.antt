@@ -1,6 +1,5 @@
 -- The mode rule after an accepted step; a refused step leaves the core.
 use Rattle.controller.specs.After.{finished-step}
-use borrow.Author.Rules.{rules}
 use Rattle.controller.proofs.core_step.Goals as goal
 
 pub returns : goal.returns

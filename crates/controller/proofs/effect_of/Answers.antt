@@ -1,6 +1,5 @@
 -- The arms of the match one by one: an accepted step has what the model's step does, a refused one its code.
 use native.Mathlib.Omega.{arith}
-use borrow.Author.Rules.{rules}
 use borrow.Author.Tests.{ne_eqb}
 use Rattle.model.specs.Step.{refusal, applied, word_of}
 use Rattle.reads.specs.Shown.{read_at}

@@ -1,4 +1,3 @@
-use borrow.Author.Rules.{rules}
 use Rattle.model.specs.Registers.{reset}
 use Rattle.controller.proofs.reset.Goals as goal
 

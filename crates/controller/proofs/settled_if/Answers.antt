@@ -1,4 +1,3 @@
-use borrow.Author.Rules.{rules}
 use Rattle.controller.proofs.settled_if.Goals as goal
 
 pub returns : goal.returns

@@ -1,7 +1,6 @@
 -- The core's part is `core_step`'s; the banks' words by the place that the step names.
 use Rattle.model.specs.Step.{step, answered}
 use Rattle.controller.specs.After.{core_step, core_step_at, banks-changed}
-use borrow.Author.Rules.{rules}
 use Rattle.controller.proofs.step.Goals as goal
 
 pub returns : goal.returns

@@ -1,5 +1,4 @@
 -- The winner of the search tells the model's acceptance; the FIFOs store by it.
-use borrow.Author.Rules.{rules}
 use Rattle.model.specs.Step.{applied, stored_by}
 use Rattle.filter.proofs.Winners.{accepted_winner}
 use Rattle.events.proofs.frame_received.Goals as goal

@@ -1,5 +1,4 @@
 -- Where the frame loops back, the winner of the search tells the model's acceptance.
-use borrow.Author.Rules.{rules}
 use Rattle.model.specs.Step.{looped_back}
 use Rattle.filter.proofs.Winners.{accepted_winner}
 use Rattle.events.proofs.looped_back.Goals as goal

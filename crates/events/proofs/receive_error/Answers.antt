@@ -1,4 +1,3 @@
-use borrow.Author.Rules.{rules}
 use Rattle.model.specs.Step.{applied}
 use Rattle.events.proofs.receive_error.Goals as goal
 

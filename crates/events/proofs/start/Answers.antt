@@ -1,5 +1,4 @@
 -- The first in priority is the model's, and the errors are stored as they were.
-use borrow.Author.Rules.{rules}
 use Rattle.model.specs.Step.{applied, started_by}
 use Rattle.events.proofs.start.Goals as goal
 

@@ -1,6 +1,5 @@
 -- The winner tells the acceptance: `accepted_winner`.
 use Rattle.filter.proofs.Winners.{accepted_winner}
-use Rattle.std.proofs.Common.{rules}
 use Rattle.filter.proofs.acceptance.Goals as goal
 
 pub returns : goal.returns

@@ -1,5 +1,5 @@
 -- The tests of the code are those of the definition.
-use Rattle.std.proofs.Common.{rules, eq-eqb, ne_eqb, le-leb}
+use Rattle.std.proofs.Common.{eq-eqb, ne_eqb, le-leb}
 use borrow.Author.Tests.{lt-leb}
 use Rattle.filter.specs.Places.{accepted_by}
 use Rattle.filter.proofs.accepted_by.Goals as goal

@@ -1,5 +1,5 @@
 -- The banks of FIFO 1 that can win have the filters that are looked at after FIFO 0's match: `can_win-tried`.
-use Rattle.std.proofs.Common.{arith, rules}
+use Rattle.std.proofs.Common.{arith}
 use Rattle.model.specs.declared.Fifo.TheVariants.{F0}
 use Rattle.filter.proofs.After.{can_win-tried, none-can_win, none_left, alone, of_two}
 use Rattle.filter.proofs.Winners.{number_at-le, number_small}

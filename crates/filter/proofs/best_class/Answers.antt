@@ -1,5 +1,5 @@
 -- The classes in their order of preference: each test of a class that is left says that it has no match.
-use Rattle.std.proofs.Common.{sym, ◌∙◌, arith, rules}
+use Rattle.std.proofs.Common.{sym, ◌∙◌, arith}
 use Rattle.filter.proofs.Classes.{all_classes, first_passes, first-wins, counted_passes, counted-few, counted-wins, last-wins}
 use Rattle.filter.proofs.best_class.Goals as goal
 

@@ -1,10 +1,10 @@
 -- The walk adds up the widths of FIFO 1's banks, so it knows the first number of the next one; it stops where that is no longer below n.
-use Rattle.std.proofs.Common.{◌<◌, arith, rules}
+use Rattle.std.proofs.Common.{arith}
 use lib.Count.{count_trailing_zeros}
 use Rattle.model.specs.Banks.{bank, class_of}
 use Rattle.model.proofs.FirstHit.{width-le}
 use Rattle.filter.proofs.LeftBanks.{lowest_set, without_less}
-use Rattle.filter.proofs.Numbered.{either, neither, Low, none-low, one-low, all-low, surely_low, rest_in_fifo1, all_in_word, begin_below, begin_whole}
+use Rattle.filter.proofs.Numbered.{either, neither, none-low, one-low, all-low, surely_low, rest_in_fifo1, all_in_word, begin_below, begin_whole}
 use Rattle.filter.proofs.can_win.Goals as goal
 
 pub returns-then-part-sure-eq0 : goal.returns-then-part-sure-eq0

@@ -1,5 +1,5 @@
 -- The sum fits, and the rest is handed on.
-use Rattle.std.proofs.Common.{refl, rules}
+use Rattle.std.proofs.Common.{refl}
 use Rattle.filter.specs.Places.{counted}
 use Rattle.filter.proofs.counted.Goals as goal
 

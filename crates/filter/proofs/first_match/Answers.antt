@@ -1,14 +1,13 @@
 -- Both loops: no filter, and no bank, that was passed takes the frame, and each was compared once. At a match this filter is the first of its
 -- bank that takes it, and its bank the first of all.
-use Rattle.std.proofs.Common.{◌≡◌, ℕ, ◌+◌, ◌-◌, ◌<◌, ◌≤◌, false, List, length, sym, ap, ◌∙◌, le_antisymm, arith, rules, below_more}
-use Rattle.model.specs.Banks.{bank}
+use Rattle.std.proofs.Common.{ℕ, ◌+◌, List, length, sym, ap, ◌∙◌, le_antisymm, arith, below_more}
 use Rattle.model.specs.declared.FilterClass.{FilterClass}
 use Rattle.model.proofs.FirstHit.{width-le}
-use Rattle.filter.specs.Compared.{candidate, takes_frame}
+use Rattle.filter.specs.Compared.{takes_frame}
 use Rattle.filter.specs.Places.{hit_of, among, limited, no_match, FirstIn}
 use Rattle.filter.proofs.Candidates.{cut-nowhere, length_cut}
 use Rattle.filter.proofs.LeftBanks.{lowest_set, without_less}
-use Rattle.filter.proofs.Passed.{Passed, PassedTo, no_match_lem, match-at, all_left, at-lowest, all-tried, bank-passed, all-passed, rest_left_out}
+use Rattle.filter.proofs.Passed.{PassedTo, no_match_lem, match-at, all_left, at-lowest, all-tried, bank-passed, all-passed, rest_left_out}
 use Rattle.filter.proofs.Winners.{hit_at-place}
 use Rattle.filter.proofs.first_match.Goals as goal
 

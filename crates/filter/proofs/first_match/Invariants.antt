@@ -1,13 +1,7 @@
-use Rattle.std.proofs.Common.{◌≡◌, ℕ, ◌+◌, ◌-◌, ◌<◌, ◌≤◌, false, List, length, sym, ap, ◌∙◌, le_antisymm, arith, rules, below_more}
+use Rattle.std.proofs.Common.{◌≡◌, ℕ, ◌+◌, ◌-◌, ◌<◌, ◌≤◌, false}
 use Rattle.model.specs.Banks.{bank}
-use Rattle.model.specs.declared.FilterClass.{FilterClass}
-use Rattle.model.proofs.FirstHit.{width-le}
 use Rattle.filter.specs.Compared.{candidate, takes_frame}
-use Rattle.filter.specs.Places.{hit_of, among, limited, no_match, FirstIn}
-use Rattle.filter.proofs.Candidates.{cut-nowhere, length_cut}
-use Rattle.filter.proofs.LeftBanks.{lowest_set, without_less}
-use Rattle.filter.proofs.Passed.{Passed, PassedTo, no_match_lem, match-at, all_left, at-lowest, all-tried, bank-passed, all-passed, rest_left_out}
-use Rattle.filter.proofs.Winners.{hit_at-place}
+use Rattle.filter.proofs.Passed.{Passed}
 use Rattle.filter.proofs.first_match.Given as goal
 
 abbrev pub invariant-loop-j : goal.invariant-loop-j

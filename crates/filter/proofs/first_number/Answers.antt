@@ -1,6 +1,6 @@
 -- A bank past the last one has the next free number: as if it stood right behind it.
-use Rattle.std.proofs.Common.{◌≡◌, ap, ◌∙◌, arith, rules}
-use Rattle.model.specs.Banks.{bank, filter_number, first_number, numbers_below, banks_below}
+use Rattle.std.proofs.Common.{◌∙◌, arith}
+use Rattle.model.specs.Banks.{bank, first_number, banks_below}
 use Rattle.model.proofs.Numbering.{banks_below-le}
 use Rattle.filter.proofs.BankWords.{banks_below-same}
 use Rattle.filter.proofs.first_number.Goals as goal

@@ -5,7 +5,7 @@ use Rattle.model.specs.Banks.{filter_number, four_counts}
 use Rattle.model.proofs.Digits.{one_shifted}
 use Rattle.model.proofs.Numbering.{first_number-from-counts}
 use Rattle.filter.proofs.BankWords.{banks_below-same}
-use Rattle.filter.proofs.SideBySide.{low_banks, sides, sides_small, sides_counts}
+use Rattle.filter.proofs.SideBySide.{sides_small, sides_counts}
 use Rattle.filter.proofs.first_number_of.Goals as goal
 
 pub overflow_shl-mine : goal.overflow_shl-mine

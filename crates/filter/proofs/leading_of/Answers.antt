@@ -1,5 +1,5 @@
 -- The word of the searched banks is part of that of the active banks of the class: `searched-bit`.
-use Rattle.std.proofs.Common.{◌^◌, ◌<◌, sym, ◌∙◌, arith, rules}
+use Rattle.std.proofs.Common.{◌^◌, ◌<◌, sym, ◌∙◌, arith}
 use Rattle.model.specs.declared.Fifo.TheVariants.{F0, F1}
 use Rattle.filter.proofs.BankWords.{searched-bit}
 use Rattle.filter.proofs.Classes.{hit-none, found_in, none_of_class, none-compared}

@@ -1,5 +1,4 @@
 -- The smaller of the two numbers, as the definition picks it.
-use Rattle.std.proofs.Common.{rules}
 use Rattle.filter.specs.Places.{lower}
 use Rattle.filter.proofs.lower.Goals as goal
 

@@ -1,5 +1,4 @@
 -- Each class has its own search.
-use Rattle.std.proofs.Common.{rules}
 use Rattle.filter.proofs.match_of_class.Goals as goal
 
 pub returns-in-List32 : goal.returns-in-List32

@@ -1,5 +1,5 @@
 -- The first number of the bank, and the filter's place in it.
-use Rattle.std.proofs.Common.{arith, rules, le-ltb, lt-ltb}
+use Rattle.std.proofs.Common.{arith, le-ltb, lt-ltb}
 use Rattle.filter.specs.Places.{number_at}
 use Rattle.filter.proofs.number_at.Goals as goal
 

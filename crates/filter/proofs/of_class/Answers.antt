@@ -1,5 +1,5 @@
 -- A bit of the word for each class: `of_class-bit`.
-use Rattle.std.proofs.Common.{arith, rules}
+use Rattle.std.proofs.Common.{arith}
 use Rattle.model.specs.declared.FilterClass.TheVariants.{List32, Mask32, List16, Mask16}
 use Rattle.filter.proofs.BankWords.{of_class-bit}
 use Rattle.filter.proofs.of_class.Goals as goal

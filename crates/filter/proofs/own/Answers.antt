@@ -1,4 +1,3 @@
-use Rattle.std.proofs.Common.{rules}
 use Rattle.filter.proofs.own.Goals as goal
 
 pub returns-in-F0 : goal.returns-in-F0

@@ -1,5 +1,5 @@
 -- With no bank active nothing is found; without a match in FIFO 0 the class's match in FIFO 1 wins, if there is one.
-use Rattle.std.proofs.Common.{arith, rules}
+use Rattle.std.proofs.Common.{arith}
 use Rattle.filter.specs.Places.{result_of}
 use Rattle.filter.proofs.Rule.{nothing-active}
 use Rattle.filter.proofs.Winners.{number_at-le, lower_of_one}

@@ -1,5 +1,5 @@
 -- Each number of a filter is a place in the list of its class; past the last there is none.
-use Rattle.std.proofs.Common.{sym, arith, rules}
+use Rattle.std.proofs.Common.{sym, arith}
 use Rattle.model.specs.Banks.{matches}
 use Rattle.model.specs.declared.FilterClass.TheVariants.{List32, Mask32, List16, Mask16}
 use Rattle.model.proofs.FirstHit.{no_filter}

@@ -1,5 +1,5 @@
 -- The count is dropped.
-use Rattle.std.proofs.Common.{ap, rules}
+use Rattle.std.proofs.Common.{ap}
 use Rattle.filter.specs.Places.{result_of}
 use Rattle.filter.specs.declared.SearchResult.{SearchResult}
 use Rattle.filter.proofs.winner.Goals as goal

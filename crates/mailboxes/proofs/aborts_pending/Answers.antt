@@ -1,4 +1,3 @@
-use borrow.Author.Rules.{rules}
 use Rattle.mailboxes.proofs.aborts_pending.Goals as goal
 
 pub returns : goal.returns

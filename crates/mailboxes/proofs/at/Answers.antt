@@ -1,4 +1,3 @@
-use borrow.Author.Rules.{rules}
 use Rattle.mailboxes.proofs.at.Goals as goal
 
 pub returns-in-M0 : goal.returns-in-M0

@@ -1,4 +1,3 @@
-use borrow.Author.Rules.{rules}
 use Rattle.model.specs.Mailboxes.{cleared}
 use Rattle.mailboxes.proofs.cleared.Goals as goal
 

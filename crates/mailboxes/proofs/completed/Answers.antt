@@ -1,4 +1,3 @@
-use borrow.Author.Rules.{rules}
 use Rattle.model.specs.Mailboxes.{completed}
 use Rattle.mailboxes.proofs.completed.Goals as goal
 

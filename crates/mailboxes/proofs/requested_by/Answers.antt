@@ -1,4 +1,3 @@
-use borrow.Author.Rules.{rules}
 use Rattle.model.specs.Mailboxes.{requested_by}
 use Rattle.mailboxes.proofs.requested_by.Goals as goal
 

@@ -1,4 +1,3 @@
-use borrow.Author.Rules.{rules}
 use Rattle.model.specs.Mailboxes.{tdh_written}
 use Rattle.mailboxes.proofs.tdh_written.Goals as goal
 

@@ -1,4 +1,3 @@
-use borrow.Author.Rules.{rules}
 use Rattle.model.specs.Mailboxes.{tdl_written}
 use Rattle.mailboxes.proofs.tdl_written.Goals as goal
 

@@ -1,4 +1,3 @@
-use borrow.Author.Rules.{rules}
 use Rattle.model.specs.Mailboxes.{tdt_written}
 use Rattle.mailboxes.proofs.tdt_written.Goals as goal
 

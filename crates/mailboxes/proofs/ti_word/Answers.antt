@@ -1,4 +1,3 @@
-use borrow.Author.Rules.{rules}
 use Rattle.model.specs.Mailboxes.{ti_word}
 use Rattle.mailboxes.proofs.ti_word.Goals as goal
 

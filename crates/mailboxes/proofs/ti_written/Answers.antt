@@ -1,4 +1,3 @@
-use borrow.Author.Rules.{rules}
 use Rattle.model.specs.Mailboxes.{ti_written}
 use Rattle.mailboxes.proofs.ti_written.Goals as goal
 

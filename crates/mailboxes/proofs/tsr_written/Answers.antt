@@ -1,4 +1,3 @@
-use borrow.Author.Rules.{rules}
 use Rattle.model.specs.Mailboxes.{tsr_written}
 use Rattle.mailboxes.proofs.tsr_written.Goals as goal
 

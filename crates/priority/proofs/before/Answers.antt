@@ -1,4 +1,3 @@
-use borrow.Author.Rules.{rules}
 use Rattle.model.specs.Mailboxes.{before}
 use Rattle.priority.proofs.before.Goals as goal
 

@@ -1,4 +1,3 @@
-use borrow.Author.Rules.{rules}
 use Rattle.model.specs.Mailboxes.{first}
 use Rattle.priority.proofs.first.Goals as goal
 

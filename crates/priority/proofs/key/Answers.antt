@@ -1,4 +1,3 @@
-use borrow.Author.Rules.{rules}
 use Rattle.model.specs.Mailboxes.{key}
 use Rattle.priority.proofs.key.Goals as goal
 

@@ -1,4 +1,3 @@
-use borrow.Author.Rules.{rules}
 use Rattle.model.specs.Mailboxes.{last}
 use Rattle.priority.proofs.last.Goals as goal
 

@@ -1,4 +1,3 @@
-use borrow.Author.Rules.{rules}
 use Rattle.model.specs.Mailboxes.{last_in_wire_order}
 use Rattle.priority.proofs.last_in_wire_order.Goals as goal
 

@@ -1,4 +1,3 @@
-use borrow.Author.Rules.{rules}
 use Rattle.model.specs.Mailboxes.{later}
 use Rattle.priority.proofs.later.Goals as goal
 

@@ -1,4 +1,3 @@
-use borrow.Author.Rules.{rules}
 use Rattle.model.specs.Mailboxes.{sooner}
 use Rattle.priority.proofs.sooner.Goals as goal
 

@@ -1,4 +1,3 @@
-use borrow.Author.Rules.{rules}
 use Rattle.model.specs.Mailboxes.{wire_key}
 use Rattle.priority.proofs.wire_key.Goals as goal
 

@@ -5,7 +5,6 @@ use Prim.Native.Nat.{ℕ, ◌%◌, ◌<◌, ◌≤◌}
 use native.Mathlib.Omega.{arith}
 use lib.Dec.{eqb, ltb, leb}
 use borrow.Author.Tests.{ltb-false, leb-false}
-use borrow.Author.Rules.{rules}
 use Rattle.base.proofs.Choices.{or_l, or_r}
 use Rattle.reads.specs.Shown.{bank_read}
 use Rattle.reads.proofs.bank_read.Goals as goal

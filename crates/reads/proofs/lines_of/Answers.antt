@@ -1,6 +1,5 @@
 -- The flags of a line side by side under its enable bits; with no interrupt enabled all four lines are down.
 use native.Mathlib.Omega.{arith}
-use borrow.Author.Rules.{rules}
 use lib.Bits.{and_le_r}
 use Rattle.model.specs.Control.{status_line}
 use Rattle.model.specs.Reception.{fifo_line}

@@ -1,5 +1,4 @@
 -- Each arm's offset is a constant, so that its register is computed; the last arm is of the banks' words and of no register.
-use borrow.Author.Rules.{rules}
 use Rattle.model.specs.Registers.{register_at, control_register, block_register, mailbox_register, output_register, filter_register, read_word}
 use Rattle.reads.specs.Shown.{read_at}
 use Rattle.reads.proofs.OtherOffsets.{other_offset}

@@ -1,5 +1,4 @@
 -- The first of the requests by the rule of TXFP, as a number.
-use borrow.Author.Rules.{rules}
 use Rattle.model.specs.Step.{word_of}
 use Rattle.reads.proofs.start_word.Goals as goal
 

@@ -2,7 +2,6 @@
 use Prim.Native.Nat.{◌*◌}
 use native.Mathlib.Omega.{arith}
 use lib.Pow.{pow_pos}
-use borrow.Author.Rules.{rules}
 use Rattle.receive.proofs.Masks.{one_shifted}
 use Rattle.receive.proofs.bytes_mask.Goals as goal
 

@@ -1,5 +1,4 @@
 use Rattle.model.specs.Reception.{cleared}
-use borrow.Author.Rules.{rules}
 use Rattle.receive.proofs.cleared.Goals as goal
 
 pub returns : goal.returns

@@ -1,6 +1,5 @@
 use Rattle.model.specs.Reception.{data_bytes}
 use borrow.Author.Tests.{le-leb, lt-leb}
-use borrow.Author.Rules.{rules}
 use Rattle.receive.proofs.data_bytes.Goals as goal
 
 pub returns-then-bit : goal.returns-then-bit

@@ -1,4 +1,3 @@
-use borrow.Author.Rules.{rules}
 use Rattle.receive.proofs.empty_fifo.Goals as goal
 
 pub returns : goal.returns

@@ -1,4 +1,3 @@
-use borrow.Author.Rules.{rules}
 use Rattle.receive.proofs.fmi_of.Goals as goal
 
 pub returns-in-Rejected : goal.returns-in-Rejected

@@ -1,5 +1,4 @@
 use Rattle.model.specs.Reception.{malformed}
-use borrow.Author.Rules.{rules}
 use Rattle.receive.proofs.malformed.Goals as goal
 
 pub returns : goal.returns

@@ -1,6 +1,5 @@
 use Rattle.model.specs.Reception.{output}
 use borrow.Author.Tests.{eq-eqb, ne_eqb}
-use borrow.Author.Rules.{rules}
 use Rattle.receive.proofs.output.Goals as goal
 
 pub returns-then-q-eq0 : goal.returns-then-q-eq0

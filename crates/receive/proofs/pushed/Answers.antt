@@ -1,6 +1,5 @@
 use Rattle.model.specs.Reception.{pushed}
 use borrow.Author.Tests.{eq-eqb, ne_eqb}
-use borrow.Author.Rules.{rules}
 use Rattle.receive.proofs.pushed.Goals as goal
 
 pub returns-then-n-eq0 : goal.returns-then-n-eq0

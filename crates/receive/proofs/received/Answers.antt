@@ -1,5 +1,4 @@
 use Rattle.model.specs.Reception.{received}
-use borrow.Author.Rules.{rules}
 use Rattle.receive.proofs.received.Goals as goal
 
 pub returns-then-goes_into : goal.returns-then-goes_into

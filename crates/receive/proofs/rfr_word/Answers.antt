@@ -1,5 +1,4 @@
 use Rattle.model.specs.Reception.{rfr_word}
-use borrow.Author.Rules.{rules}
 use Rattle.receive.proofs.rfr_word.Goals as goal
 
 pub returns : goal.returns

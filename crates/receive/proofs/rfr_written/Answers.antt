@@ -1,5 +1,4 @@
 use Rattle.model.specs.Reception.{rfr_written}
-use borrow.Author.Rules.{rules}
 use Rattle.receive.proofs.rfr_written.Goals as goal
 
 pub returns-then-bit : goal.returns-then-bit

@@ -1,5 +1,4 @@
 use Rattle.model.specs.Reception.{sent_frame}
-use borrow.Author.Rules.{rules}
 use Rattle.receive.proofs.sent_frame.Goals as goal
 
 pub returns : goal.returns

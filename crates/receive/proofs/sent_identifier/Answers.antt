@@ -1,5 +1,4 @@
 use Rattle.model.specs.Mailboxes.{sent_identifier}
-use borrow.Author.Rules.{rules}
 use Rattle.receive.proofs.sent_identifier.Goals as goal
 
 pub returns-then-bit : goal.returns-then-bit

@@ -1,7 +1,6 @@
 -- The two words of the mask keep the first bytes of the frame.
 use Rattle.model.specs.Reception.{data_bytes, stored_frame}
 use native.Mathlib.Omega.{arith}
-use borrow.Author.Rules.{rules}
 use Rattle.receive.proofs.Masks.{data_bytes-le, low_masked, high_masked}
 use Rattle.receive.proofs.stored_frame.Goals as goal
 

@@ -1,6 +1,5 @@
 -- A malformed frame is code 5; the others have the code of a frame that may not come.
 use Rattle.model.specs.Step.{refusal}
-use borrow.Author.Rules.{rules}
 use Rattle.refusals.proofs.frame_refusal.Goals as goal
 
 pub returns-then-malformed : goal.returns-then-malformed

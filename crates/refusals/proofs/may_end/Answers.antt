@@ -1,4 +1,3 @@
-use borrow.Author.Rules.{rules}
 use Rattle.model.specs.Step.{may_end}
 use Rattle.refusals.proofs.may_end.Goals as goal
 

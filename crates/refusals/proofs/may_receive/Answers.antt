@@ -1,4 +1,3 @@
-use borrow.Author.Rules.{rules}
 use Rattle.model.specs.Step.{may_receive}
 use Rattle.refusals.proofs.may_receive.Goals as goal
 

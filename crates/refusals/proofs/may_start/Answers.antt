@@ -1,4 +1,3 @@
-use borrow.Author.Rules.{rules}
 use Rattle.model.specs.Step.{may_start}
 use Rattle.refusals.proofs.may_start.Goals as goal
 

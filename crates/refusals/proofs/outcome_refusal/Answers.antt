@@ -1,7 +1,6 @@
 -- A result past 8 is code 5; the others have the code of an end that may not come.
 use Rattle.model.specs.Step.{refusal}
 use borrow.Author.Tests.{lt-ltb, le-ltb}
-use borrow.Author.Rules.{rules}
 use Rattle.refusals.proofs.outcome_refusal.Goals as goal
 
 pub returns-then-res-gt8 : goal.returns-then-res-gt8

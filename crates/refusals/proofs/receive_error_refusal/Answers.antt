@@ -1,6 +1,5 @@
 -- A code or a step out of range is code 5; the others have the code of an error that may not come.
 use Rattle.model.specs.Step.{refusal}
-use borrow.Author.Rules.{rules}
 use Rattle.refusals.proofs.receive_error_refusal.Goals as goal
 
 pub returns-then-receive_error_in_range : goal.returns-then-receive_error_in_range

@@ -1,4 +1,3 @@
-use borrow.Author.Rules.{rules}
 use Rattle.model.specs.Registers.{write_refusal}
 use Rattle.refusals.proofs.write_refusal.Goals as goal
 

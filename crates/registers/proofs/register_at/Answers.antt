@@ -1,6 +1,5 @@
 -- Each offset of the match by computing the map there. What no arm names is absent below the banks and past them.
 use borrow.Author.Tests.{lt-ltb, le-ltb}
-use borrow.Author.Rules.{rules}
 use Rattle.model.specs.Registers.{register_at, control_register, block_register, mailbox_register, output_register, filter_register}
 use Rattle.registers.proofs.Offsets.{unnamed_absent, from-banks, bank-fits}
 use Rattle.registers.proofs.register_at.Goals as goal

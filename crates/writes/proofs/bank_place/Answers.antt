@@ -1,9 +1,5 @@
 -- The place by the register's variant; every variant but R1 and R2 has 28.
 use mathlib.Core.Path.{◌≡◌, refl}
-use mathlib.Core.List.{List, [], ◌∷◌}
-use Prim.Native.Nat.{ℕ}
-use borrow.Author.Rules.{rules}
-use Rattle.model.specs.contracts.Register.{the_type}
 use Rattle.model.specs.declared.Bank.{Bank}
 use Rattle.model.specs.declared.Register.{Register}
 use Rattle.model.specs.declared.Register.TheVariants.{Mcr, Msr, Tsr, Rfr, Ier, Esr, Btr, Ti, Tdt, Tdl, Tdh, Ri, Rdt, Rdl, Rdh, Fmr, Fm1r, Fs1r, Ffa1r, Fa1r, R1, R2, Absent}

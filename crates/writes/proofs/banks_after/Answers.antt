@@ -1,6 +1,5 @@
 -- The words after a write: the tests of the code are those that the definition picks by.
 use borrow.Author.Tests.{lt-ltb, le-ltb, eq-eqb, ne_eqb}
-use borrow.Author.Rules.{rules}
 use Rattle.model.specs.Registers.{reset}
 use Rattle.writes.specs.Places.{changed}
 use Rattle.writes.proofs.banks_after.Goals as goal

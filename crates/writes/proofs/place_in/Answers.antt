@@ -1,6 +1,5 @@
 -- The place of a word of a bank: the test of the code is the one that the definition picks by.
 use borrow.Author.Tests.{lt-ltb, le-ltb}
-use borrow.Author.Rules.{rules}
 use Rattle.writes.specs.Places.{place_in}
 use Rattle.writes.proofs.place_in.Goals as goal
 

@@ -1,4 +1,3 @@
-use borrow.Author.Rules.{rules}
 use Rattle.model.specs.Registers.{written, core_reset}
 use Rattle.writes.proofs.written.Goals as goal
 

@@ -1,5 +1,4 @@
 -- Each part is the same, and so is the whole.
-use borrow.Author.Rules.{rules}
 use Rattle.controller.proofs.same.core.Goals as goal
 
 pub returns : goal.returns

@@ -1,5 +1,4 @@
 -- Each part is the same, and so is the whole.
-use borrow.Author.Rules.{rules}
 use Rattle.controller.proofs.same.fifo.Goals as goal
 
 pub returns : goal.returns

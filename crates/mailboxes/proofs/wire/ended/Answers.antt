@@ -1,4 +1,3 @@
-use borrow.Author.Rules.{rules}
 use Rattle.model.specs.Mailboxes.{ended}
 use Rattle.mailboxes.proofs.wire.ended.Goals as goal
 

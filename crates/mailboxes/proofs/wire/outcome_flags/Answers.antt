@@ -1,4 +1,3 @@
-use borrow.Author.Rules.{rules}
 use Rattle.model.specs.Mailboxes.{outcome_flags}
 use Rattle.mailboxes.proofs.wire.outcome_flags.Goals as goal
 

@@ -1,4 +1,3 @@
-use borrow.Author.Rules.{rules}
 use Rattle.model.specs.Mailboxes.{over}
 use Rattle.mailboxes.proofs.wire.over.Goals as goal
 

@@ -1,4 +1,3 @@
-use borrow.Author.Rules.{rules}
 use Rattle.model.specs.Mailboxes.{started}
 use Rattle.mailboxes.proofs.wire.started.Goals as goal
 

@@ -1,4 +1,3 @@
-use borrow.Author.Rules.{rules}
 use native.Mathlib.Omega.{arith}
 use Rattle.priority.specs.Status.{as_number}
 use Rattle.priority.proofs.tsr.as_number.Goals as goal

@@ -1,4 +1,3 @@
-use borrow.Author.Rules.{rules}
 use native.Mathlib.Omega.{arith}
 use Rattle.priority.specs.Status.{code_of}
 use Rattle.priority.proofs.StatusParts.{sender_number_small}

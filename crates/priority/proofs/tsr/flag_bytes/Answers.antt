@@ -1,4 +1,3 @@
-use borrow.Author.Rules.{rules}
 use native.Mathlib.Omega.{arith}
 use Rattle.priority.specs.Status.{flag_bytes}
 use Rattle.priority.proofs.tsr.flag_bytes.Goals as goal

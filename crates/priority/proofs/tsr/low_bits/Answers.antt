@@ -1,4 +1,3 @@
-use borrow.Author.Rules.{rules}
 use Rattle.priority.specs.Status.{low_bits}
 use Rattle.priority.proofs.tsr.low_bits.Goals as goal
 

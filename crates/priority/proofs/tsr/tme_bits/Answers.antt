@@ -1,4 +1,3 @@
-use borrow.Author.Rules.{rules}
 use Rattle.priority.specs.Status.{tme_bits}
 use Rattle.priority.proofs.tsr.tme_bits.Goals as goal
 

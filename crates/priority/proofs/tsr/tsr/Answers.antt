@@ -1,4 +1,3 @@
-use borrow.Author.Rules.{rules}
 use Rattle.priority.proofs.StatusParts.{tsr_parts}
 use Rattle.priority.proofs.tsr.tsr.Goals as goal
 

@@ -1,4 +1,3 @@
-use borrow.Author.Rules.{rules}
 use native.Mathlib.Omega.{arith}
 use Rattle.model.specs.Mailboxes.{tsr_byte}
 use Rattle.priority.proofs.tsr.tsr_byte.Goals as goal
