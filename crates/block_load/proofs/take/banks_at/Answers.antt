@@ -10,13 +10,5 @@ use native.Mathlib.Omega.{arith}
 use borrow.Author.Rules.{rules}
 use Rattle.block_load.proofs.take.banks_at.Goals as goal
 
-pub loop-j-preserved : goal.loop-j-preserved
-loop-j-preserved c =
-    (
-      omega arith,
-      simp length-set c.loop-j.invariant.1,
-      below_more _ _ (λ k h. get_or-set_other c.loop-j.v c.loop-j.j k _ 0 (λ e. omega arith) ∙ c.loop-j.invariant.2 k h) (get_or-set_same c.loop-j.v c.loop-j.j _ 0 (omega arith) ∙ c.number32.ensures),
-    )
-
 pub returns : goal.returns
 returns c = banks-read c.args.b.now _ c.loop-j.j (omega arith) c.loop-j.invariant.1 c.loop-j.invariant.2
