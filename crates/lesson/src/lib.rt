@@ -1,5 +1,6 @@
 // Lessons: scripts that must open with the record of a hardware reset. One record, a whole lesson, and a lesson in pieces.
 #![tactic(auto)]
+
 ghost use Rattle.std.specs.Prelude.{◌≡◌, length};
 ghost use Rattle.model.specs.Lesson as lessons;
 ghost use Rattle.model.specs.Script as scripts;
