@@ -35,7 +35,7 @@ not-bit i a h l = rw (not_digit i a h l) (other-digit (a / 2 ^ i % 2) (omega ari
 pub no_bit : (i : ℕ) → bit i 0 ≡ false
 no_bit i = let none : 0 / 2 ^ i ≡ 0 = omega (arith, shr_le 0 i) in rw none
 
--- ---- the banks of a class, from the words g .scale and g.mode
+-- ---- the banks of a class, from the words g.scale and g.mode
 
 -- what is shown of the four cases of two flags holds of every two
 for_flags : (P : Bool → Bool → Type 0) → P true true → P true false → P false true → P false false → (s m : Bool) → P s m

@@ -1,9 +1,9 @@
 -- A record that can't be read or answered goes through `step` too, as a step that every state refuses: so the state has one way through
 -- the code.
-use Rattle.std.specs.Prelude.{Bool, true, false, ◌||◌, ◌≡◌, refl, List, [], ℕ, eqb, ltb, length}
+use Rattle.std.specs.Prelude.{Bool, true, false, ◌≡◌, refl, List, ℕ, ltb, length}
 use Rattle.std.proofs.Common.{ap, sym, ◌∙◌}
 use Rattle.base.specs.Base.{pick}
-use Rattle.model.specs.Script.{reading, replayed, record_at, reply}
+use Rattle.model.specs.Script.{reading, replayed, record_at}
 use Rattle.model.specs.Step.{step, answered, refusal, core_after, banks_after, lines_of}
 use Rattle.model.specs.declared.Controller.{Controller}
 use Rattle.model.specs.declared.Reading.{Reading}

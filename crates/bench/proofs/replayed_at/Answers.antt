@@ -2,7 +2,6 @@
 use mathlib.Core.Path.{◌≡◌, ap, ◌∙◌}
 use Prim.Native.Nat.{◌-◌}
 use lib.ListN.{length}
-use borrow.Author.Rules.{rules}
 use Rattle.model.specs.Script.{reply_of}
 use Rattle.script.specs.OneWay.{core_replayed, whole}
 use Rattle.bench.proofs.Placed.{part_length, placed-part, least_left, least-placed}

@@ -1,5 +1,4 @@
 -- The words are those of `banks_after`.
-use borrow.Author.Rules.{rules}
 use Rattle.bench.proofs.with_bank_word.Goals as goal
 
 pub returns : goal.returns

@@ -1,10 +1,8 @@
 -- The state has one way through the code: `one_way`.
-use mathlib.Core.Path.{sym}
 use lib.ListN.{length}
 use Rattle.model.specs.Script.{reading, reply_of}
 use Rattle.script.specs.OneWay.{core_replayed}
 use Rattle.script.proofs.Replies.{room}
-use borrow.Author.Rules.{rules}
 use Rattle.script.proofs.core_replayed.Goals as goal
 
 pub write_answer-requires : goal.write_answer-requires

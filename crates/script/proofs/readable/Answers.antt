@@ -3,7 +3,6 @@ use lib.ListN.{length}
 use borrow.Author.Tests.{lt-ltb, le-ltb, le-leb, lt-leb}
 use Rattle.model.specs.Script.{reading}
 use Rattle.script.proofs.Readings.{without-space, with_space, end_of}
-use borrow.Author.Rules.{rules}
 use Rattle.script.proofs.readable.Goals as goal
 
 pub returns-then-script-place : goal.returns-then-script-place

@@ -1,5 +1,4 @@
 -- Without space nothing is written.
-use borrow.Author.Rules.{rules}
 use borrow.Author.Tests.{lt-ltb, le-ltb}
 use Rattle.script.proofs.refuse_opening.Goals as goal
 

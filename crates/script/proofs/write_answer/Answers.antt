@@ -1,5 +1,4 @@
 -- Nothing is written at the end and for code 9.
-use borrow.Author.Rules.{rules}
 use Rattle.script.proofs.write_answer.Goals as goal
 
 pub returns-then-ended-code : goal.returns-then-ended-code

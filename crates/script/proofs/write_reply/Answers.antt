@@ -4,7 +4,6 @@ use native.Mathlib.Omega.{arith}
 use lib.ListN.{length-set}
 use Rattle.model.specs.Script.{reply}
 use Rattle.script.proofs.Replies.{nine-sets}
-use borrow.Author.Rules.{rules}
 use Rattle.script.proofs.write_reply.Goals as goal
 
 pub bounds-reply-1 : goal.bounds-reply-1
