@@ -30,6 +30,7 @@ pub fn head() -> Line
 // ---- the answer
 
 // The code and the reason, with the number of its mailbox or bank.
+#[tactic(auto, using(text::proofs::Extending::extends_trans))]
 pub fn refused(l: Line, code: u8, reason: u32, index: u32) -> Line
     ensures { lines.Extends l result }
 {
@@ -93,6 +94,7 @@ pub fn line(n: u64, e: Step, a: Account) -> Line
 }
 
 // What is wrong with a record that can't be read.
+#[tactic(auto, using(text::proofs::Extending::extends_trans))]
 pub fn fault(l: Line, f: Fault) -> Line
     ensures { lines.Extends l result }
 {
@@ -172,6 +174,7 @@ pub fn unopened_complaint(program: &[u8], row: &[u8]) -> Line
 // ---- the end
 
 // The last line: why and where the trace stopped, how many records there were and how many of them were refused.
+#[tactic(auto, using(text::proofs::Extending::extends_trans))]
 pub fn last(l: Line, why: u32, place: u64, records: u64, refused: u64) -> Line
     ensures ends_line { lines.EndsLine result }
     ensures extends { lines.Extends l result }

@@ -13,11 +13,6 @@ returns-then-count-le1 c =
     let f = rw c.rows_of-x.ensures at c.find-row.ensures in
     simp (← f, ← c.number-count.ensures, le-leb _ _ c.if-count-le1.true)
 
-pub overflow_cast-index : goal.overflow_cast-index
-overflow_cast-index c =
-    let d = c.distance-d.result in
-    omega (arith, ltb-true c.value-i.result c.number-count.result (and_r (eqb d 1 || (not (eqb d 0) && not (eqb c.byte_at.result 48))) _ c.if-plain-i.true))
-
 pub returns-then-plain-i : goal.returns-then-plain-i
 unfolding tables.named tables.number rows.indexed
 returns-then-plain-i c =

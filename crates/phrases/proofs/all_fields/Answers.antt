@@ -1,18 +1,8 @@
 use mathlib.Core.Path.{◌∙◌, ap}
-use native.Mathlib.Omega.{arith}
 use Rattle.names.specs.declared.Span.{Span}
 use Rattle.phrases.specs.Names.{fields_of, with_fields, said_of}
-use Rattle.phrases.proofs.Putting.{fields_begin, fields_on_lem, fields-ended, all_said}
+use Rattle.phrases.proofs.Putting.{fields_on_lem, fields-ended, all_said}
 use Rattle.phrases.proofs.all_fields.Goals as goal
-
-pub loop-k-init : goal.loop-k-init
-loop-k-init c = fields_begin _ _ _ _
-
-pub overflow_add-k : goal.overflow_add-k
-overflow_add-k c = omega arith
-
-pub loop-k-smaller : goal.loop-k-smaller
-loop-k-smaller c = omega arith
 
 pub loop-k-preserved : goal.loop-k-preserved
 loop-k-preserved c =

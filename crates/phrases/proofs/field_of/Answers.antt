@@ -1,8 +1,6 @@
 use mathlib.Core.Path.{sym, ap, ◌∙◌}
 use Prim.Native.Nat.{ℕ}
-use native.Mathlib.Omega.{arith}
-use borrow.Author.Tests.{leb-false}
-use Rattle.base.proofs.Choices.{or_l, or_r}
+use Rattle.base.proofs.Choices.{or_l}
 use Rattle.phrases.specs.Names.{is_other}
 use Rattle.phrases.proofs.Words.{not_told, told}
 use Rattle.phrases.proofs.field_of.Goals as goal
@@ -10,15 +8,6 @@ use Rattle.phrases.proofs.field_of.Goals as goal
 pub returns-then-other-place : goal.returns-then-other-place
 returns-then-other-place c =
     not_told c.args.f c.args.w (is_other c.args.shown c.args.w) (ap (λ (x : ℕ). is_other x c.args.w) (sym c.requires.1)) (rw c.place-place.ensures at c.if-other-place.true) c.ranges.w.fits
-
-pub overflow_cast-low : goal.overflow_cast-low
-overflow_cast-low c = omega (arith, leb-false 32 c.place-place.result (or_r (is_other c.args.shown c.args.w) _ c.if-other-place.false))
-
-pub overflow_shr-w : goal.overflow_shr-w
-overflow_shr-w c = omega (arith, leb-false 32 c.place-place.result (or_r (is_other c.args.shown c.args.w) _ c.if-other-place.false))
-
-pub overflow_shl-placed : goal.overflow_shl-placed
-overflow_shl-placed c = omega (arith, leb-false 32 c.place-place.result (or_r (is_other c.args.shown c.args.w) _ c.if-other-place.false))
 
 pub returns : goal.returns
 returns c =

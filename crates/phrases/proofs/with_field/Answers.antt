@@ -1,15 +1,11 @@
 use mathlib.Core.Path.{ap, ◌∙◌}
 use Prim.Native.Nat.{ℕ, ◌-◌}
-use Rattle.names.specs.declared.rows.Numbers.{Numbers}
 use Rattle.text.specs.Lines.{put_all}
 use Rattle.phrases.specs.Names.{field_of}
 use Rattle.phrases.specs.declared.Field.{Field}
 use Rattle.phrases.proofs.Putting.{behind, hidden, shown}
 use Rattle.phrases.proofs.Words.{number-said}
 use Rattle.phrases.proofs.with_field.Goals as goal
-
-pub field_of-x-requires : goal.field_of-x-requires
-field_of-x-requires c = (ap (λ (x : Numbers). x.size) c.requires, ap (λ (x : Numbers). x.shown) c.requires)
 
 pub returns-then-x-eq0 : goal.returns-then-x-eq0
 unfolding field_of

@@ -1,20 +1,7 @@
 use mathlib.Core.Path.{◌∙◌}
-use native.Mathlib.Omega.{arith}
 use Rattle.phrases.specs.Names.{row_fields}
-use Rattle.phrases.proofs.Putting.{row_begin, row_on_lem, row-ended}
+use Rattle.phrases.proofs.Putting.{row_on_lem, row-ended}
 use Rattle.phrases.proofs.with_row.Goals as goal
-
-pub loop-i-init : goal.loop-i-init
-loop-i-init c = row_begin _ _ _ _
-
-pub with_field-t-requires : goal.with_field-t-requires
-with_field-t-requires c = c.numbers_of-n.ensures
-
-pub overflow_add-i : goal.overflow_add-i
-overflow_add-i c = omega arith
-
-pub loop-i-smaller : goal.loop-i-smaller
-loop-i-smaller c = omega arith
 
 pub loop-i-preserved : goal.loop-i-preserved
 loop-i-preserved c =

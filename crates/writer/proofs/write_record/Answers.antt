@@ -4,7 +4,7 @@ use native.Mathlib.Omega.{arith}
 use lib.ListN.{length, length-set}
 use Rattle.model.specs.Writer.{step_said}
 use Rattle.writer.proofs.Steps.{no_space_lem, no_fit, accepted, refused, done, whole, turned}
-use Rattle.writer.proofs.Storing.{begun, one_more, all-stored}
+use Rattle.writer.proofs.Storing.{one_more, all-stored}
 use Rattle.writer.proofs.write_record.Goals as goal
 
 pub returns-then-space-n : goal.returns-then-space-n

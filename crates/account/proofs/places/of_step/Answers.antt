@@ -20,11 +20,5 @@ no_access (Outcome k) r w = refl
 no_access (Receive x) r w = refl
 no_access (ReceiveError k n) r w = refl
 
-pub returns-in-Read : goal.returns-in-Read
-returns-in-Read c = simp (c.place_at.ensures, c.in-Read.is)
-
-pub returns-in-Write : goal.returns-in-Write
-returns-in-Write c = simp (c.place_at-in-Write.ensures, c.in-Write.is)
-
 pub returns-in_default : goal.returns-in_default
 returns-in_default c = no_access c.args.e c.in_default.not-Read c.in_default.not-Write

@@ -1,7 +1,3 @@
-use native.Mathlib.Omega.{arith}
-use lib.Dec.{eqb, ltb}
-use borrow.Author.Tests.{ltb-false}
-use Rattle.base.proofs.Choices.{or_r}
 use borrow.Author.Tests.{eq-eqb, ne_eqb, lt-ltb, le-ltb}
 use Rattle.lines.specs.Expectations.{expect_line}
 use Rattle.lines.proofs.expectations.expect_line.Goals as goal
@@ -9,9 +5,6 @@ use Rattle.lines.proofs.expectations.expect_line.Goals as goal
 pub returns-then-v : goal.returns-then-v
 unfolding expect_line
 returns-then-v c = rw (← c.by_name-t.ensures, eq-eqb _ _ c.if-t-eq1.true, ← c.numeral-v.ensures, c.if-v.true, c.bad.ensures)
-
-pub overflow_cast-v : goal.overflow_cast-v
-overflow_cast-v c = let n = c.numeral-v.result.number in record { fits = omega (arith, ltb-false 255 n (or_r (eqb n 0) (ltb 255 n) c.if-v.false)) }
 
 pub returns-then-t-eq1 : goal.returns-then-t-eq1
 unfolding expect_line

@@ -1,9 +1,4 @@
-use mathlib.Core.Bool.{not}
-use Prim.Native.Nat.{◌%◌}
-use native.Mathlib.Omega.{arith}
-use lib.Dec.{eqb, ltb, lit≤}
-use borrow.Author.Tests.{ltb-false}
-use Rattle.base.proofs.Choices.{or_r}
+use lib.Dec.{lit≤}
 use Rattle.lines.proofs.Places.{near}
 use borrow.Author.Tests.{eq-eqb, ne_eqb}
 use Rattle.lines.specs.Frames.{behind_identifier}
@@ -37,9 +32,6 @@ returns-then-c-eq82 c = rw (← c.byte_at.ensures, eq-eqb _ _ c.if-byte_at-ne35.
 pub returns-then-n : goal.returns-then-n
 unfolding behind_identifier
 returns-then-n c = rw (← c.byte_at.ensures, eq-eqb _ _ c.if-byte_at-ne35.false, ← c.byte_at-c.ensures, ne_eqb _ _ c.if-c-eq35.false, ne_eqb _ _ c.if-c-eq82.false, ← c.run_end-end.ensures, ← c.distance-n.ensures, c.if-n.true, c.bad-then-n.ensures)
-
-pub overflow_cast-f-4 : goal.overflow_cast-f-4
-overflow_cast-f-4 c = let n = c.distance-n.result in record { fits = omega (arith, ltb-false 16 n (or_r (not (eqb (n % 2) 0)) (ltb 16 n) c.if-n.false)) }
 
 pub returns : goal.returns
 unfolding behind_identifier

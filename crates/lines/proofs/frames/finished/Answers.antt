@@ -1,7 +1,6 @@
 use mathlib.Core.Bool.{not}
-use native.Mathlib.Omega.{arith}
-use lib.Dec.{eqb, ltb, lit≤}
-use borrow.Author.Tests.{eqb-true, not-false, ltb-false}
+use lib.Dec.{eqb, lit≤}
+use borrow.Author.Tests.{eqb-true, not-false}
 use Rattle.base.proofs.Choices.{or_r}
 use Rattle.lines.proofs.Places.{near}
 use borrow.Author.Tests.{lt-ltb, le-ltb, le-leb, lt-leb}
@@ -29,9 +28,6 @@ returns-then-code c = rw (lt-leb _ _ c.if-to-place.false, ← c.byte_at.ensures,
 pub returns-then-end-to : goal.returns-then-end-to
 unfolding finished
 returns-then-end-to c = rw (lt-leb _ _ c.if-to-place.false, ← c.byte_at.ensures, c.if-f-byte_at.false, ← c.value-code.ensures, c.if-code.false, lt-ltb _ _ c.if-end-to.true, c.bad-then-end-to.ensures)
-
-pub overflow_cast-x : goal.overflow_cast-x
-overflow_cast-x c = let n = c.value-code.result in record { fits = omega (arith, ltb-false 15 n (or_r (ltb n 9) (ltb 15 n) c.if-code.false)) }
 
 pub returns : goal.returns
 unfolding finished

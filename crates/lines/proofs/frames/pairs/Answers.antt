@@ -1,4 +1,4 @@
-use mathlib.Core.Path.{◌≡◌, refl, ap, ◌∙◌}
+use mathlib.Core.Path.{refl}
 use native.Mathlib.Numerals.{add-one}
 use native.Mathlib.Omega.{arith}
 use Rattle.lines.specs.Frames.{pairs}
@@ -12,8 +12,3 @@ pub loop-i-preserved : goal.loop-i-preserved
 unfolding pairs
 loop-i-preserved c =
     (rw (c.value-byte.ensures, add-one c.loop-i.i, c.loop-i.invariant.0), omega (arith, c.loop-i-test.true))
-
-pub returns : goal.returns
-returns c =
-    let e : c.loop-i.i ≡ c.args.count = omega (arith, c.loop-i.invariant.1, c.loop-i-test.false) in
-    c.loop-i.invariant.0 ∙ ap (pairs _ _) e

@@ -1,11 +1,9 @@
 -- The invariant: the definition, from the words so far on, gives what it gives from the start.
-use mathlib.Core.Path.{refl, sym, ◌∙◌}
+
+use mathlib.Core.Path.{sym, ◌∙◌}
 use Rattle.lines.proofs.Words.{words-done, words_on_lem, words-ended}
 use Rattle.lines.specs.Parts.{all_words}
 use Rattle.lines.proofs.parts.all_words.Goals as goal
-
-pub loop-n-init : goal.loop-n-init
-loop-n-init c = refl
 
 pub returns-then-p-w : goal.returns-then-p-w
 unfolding all_words

@@ -1,5 +1,6 @@
 -- The invariant: the definition, from the words so far on, gives what it gives from the start.
-use mathlib.Core.Path.{refl, sym, ◌∙◌}
+
+use mathlib.Core.Path.{sym, ◌∙◌}
 use borrow.Author.Tests.{le-leb}
 use Rattle.lines.proofs.Words.{bytes-done, bytes-bad, bytes_on_lem, bytes-ended, bytes-begun}
 use Rattle.lines.specs.Lines.{bytes_line}
@@ -8,9 +9,6 @@ use Rattle.lines.proofs.parts.bytes_line.Goals as goal
 pub returns-then-w-first : goal.returns-then-w-first
 unfolding bytes_line
 returns-then-w-first c = rw (← c.word_at-w.ensures, le-leb _ _ c.if-w-first.true, c.bad.ensures)
-
-pub loop-n-init : goal.loop-n-init
-loop-n-init c = refl
 
 pub returns-then-w : goal.returns-then-w
 unfolding bytes_line

@@ -3,22 +3,13 @@ use native.Mathlib.Omega.{arith}
 use Rattle.names.proofs.Ranges.{within}
 use Rattle.names.proofs.scan.digit_of.Goals as goal
 
-pub overflow_sub-result : goal.overflow_sub-result
-overflow_sub-result c = omega (arith, within 48 57 c.args.c c.if-c.true)
-
 pub returns-then-c : goal.returns-then-c
 unfolding scan.digit_of
 returns-then-c c = simp c.if-c.true
 
-pub overflow_sub-result-then-c-2 : goal.overflow_sub-result-then-c-2
-overflow_sub-result-then-c-2 c = omega (arith, within 65 70 c.args.c c.if-c-2.true)
-
 pub returns-then-c-2 : goal.returns-then-c-2
 unfolding scan.digit_of
 returns-then-c-2 c = simp (c.if-c-2.true, c.if-c.false)
-
-pub overflow_sub-result-then-c-3 : goal.overflow_sub-result-then-c-3
-overflow_sub-result-then-c-3 c = omega (arith, within 97 102 c.args.c c.if-c-3.true)
 
 pub returns-then-c-3 : goal.returns-then-c-3
 unfolding scan.digit_of

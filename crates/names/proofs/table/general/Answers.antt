@@ -1,4 +1,5 @@
 -- The literal is the rows one behind the other, computed.
+
 use mathlib.Core.Path.{refl, ◌∙◌}
 use Rattle.base.proofs.Choices.{Is}
 use Rattle.names.specs.Listing.{bytes, row, general}

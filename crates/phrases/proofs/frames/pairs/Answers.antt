@@ -1,9 +1,5 @@
-use mathlib.Core.Path.{refl}
 use Rattle.phrases.proofs.Putting.{pairs-on, pairs-ended}
 use Rattle.phrases.proofs.frames.pairs.Goals as goal
-
-pub loop-i-init : goal.loop-i-init
-loop-i-init c = refl
 
 pub loop-i-preserved : goal.loop-i-preserved
 loop-i-preserved c =

@@ -1,4 +1,0 @@
-use Rattle.phrases.proofs.bytes.Goals as goal
-
-pub returns : goal.returns
-returns c = c.bytes.ensures
