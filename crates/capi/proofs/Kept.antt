@@ -37,7 +37,7 @@ use Rattle.block.specs.Loading.{right_length, accepts, load_code, loaded, Saves}
 use Rattle.block.proofs.Lengths.{core-length}
 use Rattle.block.proofs.Stores.{past_head}
 use Rattle.block.proofs.Exactly.{blocks, saved-loads, code-zero}
-use Rattle.capi.specs.Calls.{is_board, block_size, fits, takes, packed, answer, changes, block_after, reset_answer, block_reset}
+use Rattle.capi.specs.Calls.{is_board, block_size, fits, takes, packed, answer, block_after, reset_answer, block_reset}
 use Rattle.capi.specs.Promises.{code_in, lines_in, unused_in, word_in, BlockRefused, BlockStepped, Resets, block_behind, call_entries, Called, Promises}
 use Rattle.capi.proofs.Called.{no_board}
 

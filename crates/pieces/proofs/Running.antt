@@ -1,11 +1,10 @@
 -- Turn after turn: what is sent, and what all turns come to.
-use Rattle.std.proofs.Common.{◌≡◌, ℕ, ◌+◌, ◌-◌, ◌*◌, ◌%◌, ◌^◌, ◌≤◌, Bool, true, false, eqb, List, [], ◌∷◌, ◌++◌, length, take, drop, sym, refl, ap, ◌∙◌, append-nil, add_assoc, arith, length-append, length-take, length-take-le, take_all}
-use mathlib.Core.List.{flatten}
+use Rattle.std.proofs.Common.{◌≡◌, ℕ, ◌+◌, ◌-◌, ◌*◌, ◌%◌, ◌^◌, ◌≤◌, Bool, true, false, List, [], ◌∷◌, ◌++◌, length, take, drop, sym, refl, ap, ◌∙◌, append-nil, add_assoc, arith, length-append, length-take, length-take-le, take_all}
 use native.Mathlib.Nat.{mod-add-mod}
 use lib.Seq.{take-append-le}
 use Rattle.base.specs.Base.{pick}
-use Rattle.model.specs.Script.{overwritten, Progress, replay, steps_of}
-use Rattle.model.specs.Scripts.{goes_on, followed, left_by, after_piece, in_pieces, Fit}
+use Rattle.model.specs.Script.{overwritten, Progress, replay}
+use Rattle.model.specs.Scripts.{goes_on, followed, left_by, after_piece, in_pieces}
 use Rattle.model.specs.declared.Controller.{Controller}
 use Rattle.model.specs.declared.Replay.{Replay}
 use Rattle.base.proofs.Choices.{pick_cases}

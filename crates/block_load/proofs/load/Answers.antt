@@ -1,5 +1,4 @@
 -- The core, and the words of the banks with it.
-use borrow.Author.Rules.{rules}
 use Rattle.block_load.proofs.Loads.{whole-reset, whole-loaded}
 use Rattle.block_load.proofs.load.Goals as goal
 

@@ -1,7 +1,6 @@
 use Rattle.block.specs.Loading.{right_length, banks_loaded}
 use Rattle.model.specs.Registers.{reset}
 use borrow.Author.Tests.{eq-eqb, ne_eqb}
-use borrow.Author.Rules.{rules}
 use Rattle.block_load.proofs.load_banks.Goals as goal
 
 pub returns-then-b-ne354 : goal.returns-then-b-ne354

@@ -1,7 +1,5 @@
 -- A refusal at each test, or the core.
 use mathlib.Core.Path.{sym, ◌∙◌}
-use borrow.Author.Rules.{rules}
-use borrow.Author.Tests.{not-true, not-false}
 use Rattle.block_load.proofs.Loads.{short, unformed, unranged, gives_reset, gives_core}
 use Rattle.block_load.proofs.load_core.Goals as goal
 

@@ -3,7 +3,6 @@ use Rattle.block.specs.Block.{control_bytes, errors_bytes, transmit_bytes, fifo_
 use mathlib.Core.List.{[], ◌∷◌}
 use native.Mathlib.Omega.{arith}
 use Rattle.block.proofs.Stores.{run, runs}
-use borrow.Author.Rules.{rules}
 use Rattle.block_save.proofs.put_core.Goals as goal
 
 pub returns : goal.returns

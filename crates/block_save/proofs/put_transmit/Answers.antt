@@ -3,7 +3,6 @@ use Rattle.block.specs.Block.{mailbox_bytes, queue_bytes, transmit_bytes}
 use mathlib.Core.List.{[], ◌∷◌}
 use native.Mathlib.Omega.{arith}
 use Rattle.block.proofs.Stores.{run, runs}
-use borrow.Author.Rules.{rules}
 use Rattle.block_save.proofs.put_transmit.Goals as goal
 
 pub returns : goal.returns

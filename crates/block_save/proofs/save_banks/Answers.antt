@@ -1,6 +1,5 @@
 use borrow.Author.Tests.{eq-eqb, ne_eqb}
 use Rattle.block.specs.Loading.{right_length, save_code, banks_saved_over}
-use borrow.Author.Rules.{rules}
 use Rattle.block_save.proofs.save_banks.Goals as goal
 
 pub returns-then-b-ne354 : goal.returns-then-b-ne354

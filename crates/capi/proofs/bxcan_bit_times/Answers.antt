@@ -1,6 +1,5 @@
 use mathlib.Core.Path.{sym}
 use Rattle.capi.proofs.Narrowed.{count_narrowed}
-use borrow.Author.Rules.{rules}
 use Rattle.capi.proofs.bxcan_bit_times.Goals as goal
 
 pub returns : goal.returns

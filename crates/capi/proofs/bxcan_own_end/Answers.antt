@@ -1,6 +1,5 @@
 use mathlib.Core.Path.{sym}
 use Rattle.capi.proofs.Narrowed.{result_narrowed}
-use borrow.Author.Rules.{rules}
 use Rattle.capi.proofs.bxcan_own_end.Goals as goal
 
 pub returns : goal.returns

@@ -1,6 +1,5 @@
 use mathlib.Core.Path.{sym}
 use Rattle.capi.proofs.Narrowed.{read_narrowed}
-use borrow.Author.Rules.{rules}
 use Rattle.capi.proofs.bxcan_read.Goals as goal
 
 pub returns : goal.returns

@@ -1,6 +1,5 @@
 use mathlib.Core.Path.{sym}
 use Rattle.capi.proofs.Narrowed.{code_narrowed, step_narrowed}
-use borrow.Author.Rules.{rules}
 use Rattle.capi.proofs.bxcan_receive_error.Goals as goal
 
 pub returns : goal.returns

@@ -1,7 +1,6 @@
 use Rattle.block.specs.Loading.{save_code, saved_over}
 use Rattle.capi.specs.Calls.{is_board, fits, reset_answer, block_reset}
 use borrow.Author.Tests.{eq-eqb, ne_eqb}
-use borrow.Author.Rules.{rules}
 use Rattle.capi.proofs.bxcan_reset.Goals as goal
 
 pub returns-then-board-ne0 : goal.returns-then-board-ne0

@@ -1,6 +1,5 @@
 use mathlib.Core.Path.{sym}
 use Rattle.capi.proofs.Narrowed.{write_narrowed}
-use borrow.Author.Rules.{rules}
 use Rattle.capi.proofs.bxcan_write.Goals as goal
 
 pub returns : goal.returns

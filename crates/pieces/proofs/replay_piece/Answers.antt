@@ -1,4 +1,4 @@
-use Rattle.std.proofs.Common.{length, rules}
+use Rattle.std.proofs.Common.{length}
 use Rattle.pieces.proofs.Running.{nine_bytes_lem, taken}
 use Rattle.pieces.proofs.replay_piece.Goals as goal
 

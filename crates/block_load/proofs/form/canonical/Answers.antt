@@ -1,7 +1,5 @@
 use mathlib.Core.Path.{sym, ◌∙◌}
-use borrow.Author.Tests.{not-true, not-false}
 use Rattle.block.specs.Block.{canonical}
-use borrow.Author.Rules.{rules}
 use Rattle.block_load.proofs.form.canonical.Goals as goal
 
 pub returns-then-not-headers_ok : goal.returns-then-not-headers_ok

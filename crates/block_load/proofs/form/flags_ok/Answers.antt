@@ -1,5 +1,4 @@
 use Rattle.block.specs.Block.{flags_ok}
-use borrow.Author.Rules.{rules}
 use Rattle.block_load.proofs.form.flags_ok.Goals as goal
 
 pub returns : goal.returns

@@ -1,6 +1,5 @@
 use Rattle.block.specs.Block.{header_ok}
 use borrow.Author.Tests.{eq-eqb, ne_eqb}
-use borrow.Author.Rules.{rules}
 use Rattle.block_load.proofs.form.header_ok.Goals as goal
 
 pub returns-then-b-i : goal.returns-then-b-i

@@ -1,7 +1,5 @@
 -- Every header, or one that is not there.
 use mathlib.Core.Path.{sym, ◌∙◌}
-use borrow.Author.Rules.{rules}
-use borrow.Author.Tests.{not-true, not-false}
 use Rattle.block.specs.Block.{header_tests, headers_ok}
 use Rattle.ranges.proofs.Tests.{one_fails, last_one}
 use Rattle.block_load.proofs.form.headers_ok.Goals as goal

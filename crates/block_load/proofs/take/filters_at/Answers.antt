@@ -1,5 +1,4 @@
 use Rattle.block.specs.Block.{filters_at}
-use borrow.Author.Rules.{rules}
 use Rattle.block_load.proofs.take.filters_at.Goals as goal
 
 pub returns : goal.returns

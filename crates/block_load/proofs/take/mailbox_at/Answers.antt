@@ -1,5 +1,4 @@
 use Rattle.block.specs.Block.{mailbox_at}
-use borrow.Author.Rules.{rules}
 use Rattle.block_load.proofs.take.mailbox_at.Goals as goal
 
 pub returns : goal.returns

@@ -1,6 +1,5 @@
 use Rattle.block.specs.Block.{order_at}
 use borrow.Author.Tests.{eq-eqb, ne_eqb}
-use borrow.Author.Rules.{rules}
 use Rattle.block_load.proofs.take.order_at.Goals as goal
 
 pub returns-then-a-eq3 : goal.returns-then-a-eq3

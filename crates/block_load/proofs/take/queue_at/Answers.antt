@@ -1,5 +1,4 @@
 use Rattle.block.specs.Block.{queue_at}
-use borrow.Author.Rules.{rules}
 use Rattle.block_load.proofs.take.queue_at.Goals as goal
 
 pub returns : goal.returns

@@ -1,6 +1,5 @@
 use Rattle.block.specs.Block.{sender_at}
 use borrow.Author.Tests.{eq-eqb, ne_eqb}
-use borrow.Author.Rules.{rules}
 use Rattle.block_load.proofs.take.sender_at.Goals as goal
 
 pub returns-then-n-eq3 : goal.returns-then-n-eq3

@@ -4,7 +4,6 @@ use Prim.Native.Nat.{◌+◌}
 use mathlib.Core.List.{[], ◌∷◌}
 use native.Mathlib.Omega.{arith}
 use Rattle.block.proofs.Stores.{run, runs}
-use borrow.Author.Rules.{rules}
 use Rattle.block_save.proofs.put.put_fifo.Goals as goal
 
 pub returns : goal.returns

@@ -1,5 +1,4 @@
 use Rattle.block.specs.Block.{queue_bytes}
-use borrow.Author.Rules.{rules}
 use Rattle.block_save.proofs.put.put_queue.Goals as goal
 
 pub returns : goal.returns

@@ -1,11 +1,10 @@
 -- Zeros from the front, one more in each turn.
-use mathlib.Core.List.{List, ◌++◌}
-use mathlib.Core.Path.{◌≡◌, ap, ◌∙◌}
-use Prim.Native.Nat.{ℕ, ◌-◌, ◌≤◌}
+use mathlib.Core.List.{List}
+use mathlib.Core.Path.{ap, ◌∙◌}
+use Prim.Native.Nat.{ℕ}
 use native.Mathlib.Omega.{arith}
-use lib.ListN.{length, set, drop, replicate, length-set}
-use borrow.Author.Fill.{fill_none, fill_more}
-use borrow.Author.Rules.{rules}
+use lib.ListN.{set, replicate, length-set}
+use borrow.Author.Fill.{fill_more}
 use Rattle.block_save.proofs.Over.{filled}
 use Rattle.block_save.proofs.reset.clear.Goals as goal
 

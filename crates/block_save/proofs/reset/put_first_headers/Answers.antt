@@ -1,5 +1,4 @@
 use Rattle.block_save.specs.Reset.{first_headers}
-use borrow.Author.Rules.{rules}
 use Rattle.block_save.proofs.reset.put_first_headers.Goals as goal
 
 pub returns : goal.returns

@@ -1,5 +1,4 @@
 use Rattle.block_save.specs.Reset.{last_headers}
-use borrow.Author.Rules.{rules}
 use Rattle.block_save.proofs.reset.put_last_headers.Goals as goal
 
 pub returns : goal.returns

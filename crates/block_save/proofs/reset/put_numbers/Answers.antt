@@ -1,5 +1,4 @@
 use Rattle.block_save.specs.Reset.{reset_numbers}
-use borrow.Author.Rules.{rules}
 use Rattle.block_save.proofs.reset.put_numbers.Goals as goal
 
 pub returns : goal.returns

@@ -2,7 +2,6 @@ use Rattle.model.specs.Control.{control_reset}
 use Rattle.model.specs.Registers.{reset}
 use Rattle.block.specs.Block.{saved, core_bytes, control_bytes, errors_bytes, transmit_bytes, mailbox_bytes, queue_bytes, fifo_bytes, filters_bytes, banks_bytes, word_bytes}
 use Rattle.block_save.specs.Reset.{first_headers, last_headers, reset_numbers}
-use borrow.Author.Rules.{rules}
 use Rattle.block_save.proofs.reset.put_reset.Goals as goal
 
 pub returns : goal.returns

@@ -1,6 +1,5 @@
 use Rattle.capi.specs.Narrow.{byte}
 use borrow.Author.Tests.{lt-ltb, le-ltb}
-use borrow.Author.Rules.{rules}
 use Rattle.capi.proofs.narrow.byte.Goals as goal
 
 pub returns-then-n-gt255 : goal.returns-then-n-gt255

@@ -1,6 +1,5 @@
 use Rattle.capi.specs.Narrow.{count}
 use borrow.Author.Tests.{lt-ltb, le-ltb}
-use borrow.Author.Rules.{rules}
 use Rattle.capi.proofs.narrow.count.Goals as goal
 
 pub returns-then-n-gt65535 : goal.returns-then-n-gt65535
