@@ -1,7 +1,6 @@
 -- As many bytes as the reply has.
 use mathlib.Core.Path.{◌∙◌, sym}
 use Rattle.bench.proofs.Rounds.{reply_bytes_lem}
-use borrow.Author.Rules.{rules}
 use Rattle.lesson.proofs.ends_with.Goals as goal
 
 pub returns : goal.returns

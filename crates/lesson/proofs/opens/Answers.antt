@@ -3,7 +3,6 @@ use mathlib.Core.Path.{sym}
 use native.Mathlib.Omega.{arith}
 use Rattle.model.proofs.Lessons.{opening_is}
 use Rattle.lesson.proofs.Openings.{opens-bytes}
-use borrow.Author.Rules.{rules}
 use Rattle.lesson.proofs.opens.Goals as goal
 
 pub returns-then-lesson-lt3 : goal.returns-then-lesson-lt3

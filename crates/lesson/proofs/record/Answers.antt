@@ -3,7 +3,6 @@ use mathlib.Core.Path.{◌∙◌, sym}
 use lib.ListN.{length}
 use Rattle.model.specs.Lesson.{lesson_at}
 use Rattle.script.specs.OneWay.{whole-record}
-use borrow.Author.Rules.{rules}
 use Rattle.lesson.proofs.record.Goals as goal
 
 pub returns-then-opens : goal.returns-then-opens

@@ -2,7 +2,6 @@
 use lib.Dec.{ltb}
 use lib.ListN.{length}
 use Rattle.model.proofs.Lessons.{refused-writes}
-use borrow.Author.Rules.{rules}
 use Rattle.lesson.proofs.refused.Goals as goal
 
 pub returns : goal.returns

@@ -1,8 +1,6 @@
 -- A script behind a good opening.
 use mathlib.Core.Path.{◌∙◌, sym}
 use Rattle.model.specs.Lesson.{lesson_at, lesson_replay}
-use borrow.Author.Tests.{not-true, not-false}
-use borrow.Author.Rules.{rules}
 use Rattle.lesson.proofs.replay.Goals as goal
 
 pub returns-then-not-opens : goal.returns-then-not-opens

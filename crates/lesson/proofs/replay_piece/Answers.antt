@@ -1,6 +1,5 @@
 -- A piece that is replayed, or an opening that is refused.
 use Rattle.lesson.proofs.Taking.{admitted, refused}
-use borrow.Author.Rules.{rules}
 use Rattle.lesson.proofs.replay_piece.Goals as goal
 
 pub returns-then-opened-opens : goal.returns-then-opened-opens
