@@ -82,12 +82,6 @@ fields-step : (s t z : Said) (a b c : List Found) (w : ℕ) → c ≡ a ++ b →
 fields-step s t z a b c w p e k =
     ap (λ (x : Said). with_fields x b w) e ∙ (fields-both s a b w ∙ (sym (ap (λ (x : List Found). with_fields s x w) p) ∙ k))
 
-pub row_begin : (s : Said) (w row n : ℕ) → with_fields s (row_on row 0 (n - 0)) w ≡ with_fields s (row_on row 0 n) w
-row_begin s w row n = ap (λ (k : ℕ). with_fields s (row_on row 0 k) w) all
-  where
-    all : n - 0 ≡ n
-    all = omega arith
-
 module _ (s z : Said) (w row i n : ℕ) where
   pub row_on_lem : (t : Said) → i < n → t ≡ with_field s (record { row = row; index = i }) w → with_fields s (row_on row i (n - i)) w ≡ z → with_fields t (row_on row (i + 1) (n - (i + 1))) w ≡ z
   unfolding row_on with_fields
@@ -97,15 +91,6 @@ module _ (s z : Said) (w row i n : ℕ) where
   pub row-ended : n ≤ i → with_fields s (row_on row i (n - i)) w ≡ z → s ≡ z
   unfolding row_on with_fields
   row-ended h q = sym (ap (λ (x : List Found). with_fields s x w) (ap (row_on row i) (none_left i n h))) ∙ q
-
-pub fields_begin : (s : Said) (w row n : ℕ) → with_fields s (fields_on (row + 0) (n - 0)) w ≡ with_fields s (fields_on row n) w
-fields_begin s w row n = rw (same, all)
-  where
-    same : row + 0 ≡ row
-    same = omega arith
-
-    all : n - 0 ≡ n
-    all = omega arith
 
 module _ (s z : Said) (w row k n : ℕ) where
   next : k < n → fields_on (row + k) (n - k) ≡ row_fields (row + k) ++ fields_on (row + (k + 1)) (n - (k + 1))
