@@ -1,13 +1,10 @@
 -- Which steps search the filters. Assumes nothing.
-use Rattle.std.proofs.Common.{◌≡◌, ℕ, Bool, true, false, not, ◌&&◌, eqb, List, [], refl, ne_eqb}
-use Rattle.base.specs.Base.{pick}
+use Rattle.std.proofs.Common.{◌≡◌, ℕ, Bool, true, false, not, ◌&&◌, eqb, [], refl, ne_eqb}
 use Rattle.model.specs.Control.{lbkm}
 use Rattle.model.specs.declared.Core.{Core}
 use Rattle.model.specs.declared.Sender.{Sender}
 use Rattle.model.specs.declared.Sender.TheVariants.{Nobody, From}
 use Rattle.comparisons.specs.Searches.{searched_numbers, looped_word, accepted_word, searched_word, Searching}
-use Rattle.comparisons.specs.declared.searches.Searched.{Searched}
-use Rattle.comparisons.specs.declared.searches.Searched.TheVariants.{Word, Nothing}
 
 module _ (c : Core) where
   -- one of the three conditions fails

@@ -1,6 +1,7 @@
 // A line of text, by value. Each function adds to the line; a byte for which there is no room is left out, and the
 // longest line leaves room.
 #![tactic(auto)]
+
 ghost use Rattle.std.specs.Prelude.{◌≡◌, replicate};
 ghost use Rattle.text.specs.Lines as lines;
 ghost use Rattle.text.specs.Numbers as numbers;
