@@ -1,7 +1,19 @@
-// What a program was started with, behind its own name.
+// The arguments that a program was started with, behind its own name, and the one word that it may know.
 #![tactic(auto)]
 
+ghost use Rattle.std.specs.Prelude.{◌≡◌};
+ghost use Rattle.command_line.specs.Arguments.{IsWithin, asked_for};
+
 use std::env::{Env, FillError};
+
+// No argument; one, which is so many bytes at the front of a space; or anything else: more than one, or one that is longer than the
+// space.
+#[derive(Clone, Copy)]
+pub enum Given {
+    Nothing,
+    One(usize),
+    Other,
+}
 
 // No argument, the one word that the program knows, or anything else.
 #[derive(Clone, Copy)]
@@ -11,31 +23,42 @@ pub enum Asked {
     Other,
 }
 
-// Whether there is an argument at a place; 1 is the first behind the name.
-pub fn is_given(rt: &impl Env, place: usize) -> bool {
+// Whether there is a second argument.
+fn has_second(rt: &impl Env) -> bool {
     let mut text = [0u8; 1];
-    match rt.arg(place, &mut text) {
+    match rt.arg(2, &mut text) {
         Ok(_) => true,
         Err(FillError::TooLong) => true,
         Err(FillError::NotPresent) => false,
     }
 }
 
-// Whether the first argument is a word; one of more than 4096 bytes is none.
-fn is_first(rt: &impl Env, word: &[u8]) -> bool {
-    let mut text = io::buffer();
-    match rt.arg(1, &mut text) {
-        Ok(n) => check::same(&text[..n], word),
-        Err(_) => false,
+pub fn arguments(rt: &impl Env, space: &mut [u8]) -> Given
+    ensures { IsWithin result space.new }
+{
+    if has_second(rt) {
+        return Given::Other;
+    }
+    match rt.arg(1, space) {
+        Ok(n) => Given::One(n),
+        Err(FillError::NotPresent) => Given::Nothing,
+        Err(FillError::TooLong) => Given::Other,
     }
 }
 
-pub fn look_for(rt: &impl Env, word: &[u8]) -> Asked {
-    if !is_given(rt, 1) {
-        return Asked::Nothing;
+pub fn asked_for(g: Given, space: &[u8], word: &[u8]) -> Asked
+    ensures { result ≡ asked_for g space.now word.now }
+{
+    match g {
+        Given::Nothing => Asked::Nothing,
+        Given::One(n) => {
+            let k = n.min(space.len());
+            if &space[..k] == word {
+                Asked::Word
+            } else {
+                Asked::Other
+            }
+        }
+        Given::Other => Asked::Other,
     }
-    if !is_given(rt, 2) & is_first(rt, word) {
-        return Asked::Word;
-    }
-    Asked::Other
 }

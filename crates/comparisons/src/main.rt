@@ -251,7 +251,9 @@ fn run<R: Read>(first: Session, reader: &mut R, space: &mut [u8]) {
 
 // Other arguments than --lesson are told, and nothing is read.
 fn arguments(rt: &impl Env) -> Session {
-    match command_line::look_for(rt, b"--lesson") {
+    let mut text = io::buffer();
+    let given = command_line::arguments(rt, &mut text);
+    match command_line::asked_for(given, &text, b"--lesson") {
         Asked::Nothing => begun(false, true),
         Asked::Word => begun(true, true),
         Asked::Other => {

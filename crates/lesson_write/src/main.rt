@@ -4,7 +4,7 @@
 #![tactic(auto)]
 
 use bits::least;
-use command_line::Asked;
+use command_line::{Asked, Given};
 use expected::Expected;
 use lines::Meaning;
 use names::scan::{value, word_at};
@@ -308,9 +308,17 @@ fn run<R: Read>(first: Progress, reader: &mut R, space: &mut [u8], out: &mut [u8
 
 // Other arguments are told, and nothing is read.
 fn arguments(rt: &impl Env) -> Progress {
-    let checks = matches!(command_line::look_for(rt, b"--check"), Asked::Word);
-    let expects = matches!(command_line::look_for(rt, b"--expects"), Asked::Word);
-    let known = checks | expects | !command_line::is_given(rt, 1);
+    let mut text = io::buffer();
+    let given = command_line::arguments(rt, &mut text);
+    let checks = matches!(
+        command_line::asked_for(given, &text, b"--check"),
+        Asked::Word
+    );
+    let expects = matches!(
+        command_line::asked_for(given, &text, b"--expects"),
+        Asked::Word
+    );
+    let known = checks | expects | matches!(given, Given::Nothing);
     if !known {
         say::say(b"usage: lesson_write [--check | --expects]\n");
     }

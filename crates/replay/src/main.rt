@@ -90,7 +90,9 @@ fn next<R: Read>(p: Progress, reader: &mut R, space: &mut [u8], replies: &mut [u
 
 // Other arguments than --lesson are told, and nothing is replayed.
 fn arguments(rt: &impl Env) -> Asked {
-    let how = command_line::look_for(rt, b"--lesson");
+    let mut text = io::buffer();
+    let given = command_line::arguments(rt, &mut text);
+    let how = command_line::asked_for(given, &text, b"--lesson");
     match how {
         Asked::Other => say::say(b"usage: replay [--lesson]\n"),
         _ => {}

@@ -3,6 +3,7 @@
 // the picture is an answer of the controller. That there is such a history for every n is proved (`starvation` in the model).
 #![tactic(auto)]
 
+use command_line::Given;
 use model::{Controller, Step};
 use number::Numeral;
 use std::env::Env;
@@ -239,12 +240,9 @@ fn show(n: u32) {
 // The number that is the only argument.
 fn argument(rt: &impl Env) -> Numeral {
     let mut text = io::buffer();
-    if command_line::is_given(rt, 2) {
-        return Numeral::Bad;
-    }
-    match rt.arg(1, &mut text) {
-        Ok(length) => number::parsed(&text[..length]),
-        Err(_) => Numeral::Bad,
+    match command_line::arguments(rt, &mut text) {
+        Given::One(length) => number::parsed(&text[..length]),
+        _ => Numeral::Bad,
     }
 }
 

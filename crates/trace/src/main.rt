@@ -458,7 +458,9 @@ fn begun(lesson: bool) -> Progress {
 
 // Other arguments are told, and nothing is traced.
 fn main(rt: HostRuntime) {
-    let lesson = match command_line::look_for(&rt, b"--expects") {
+    let mut argument = io::buffer();
+    let given = command_line::arguments(&rt, &mut argument);
+    let lesson = match command_line::asked_for(given, &argument, b"--expects") {
         Asked::Nothing => false,
         Asked::Word => true,
         Asked::Other => {

@@ -2,7 +2,9 @@
 // accepted register accesses. `step` is called at one place, as a replay does.
 #![tactic(auto)]
 
+use command_line::Given;
 use model::{Frame, Step};
+use std::env::Env;
 
 const STDOUT_FILENO: i32 = 1;
 
@@ -66,8 +68,15 @@ fn next(registers: bool, i: u32) -> Step {
     Step::Receive(frame(i))
 }
 
+fn has_argument(rt: &impl Env) -> bool {
+    match command_line::arguments(rt, &mut [0u8; 1]) {
+        Given::Nothing => false,
+        _ => true,
+    }
+}
+
 fn main(rt: HostRuntime) {
-    let registers = command_line::is_given(&rt, 1);
+    let registers = has_argument(&rt);
     let mut z = controller::reset();
     let mut words: u32 = 0;
     let mut refused: u32 = 0;
