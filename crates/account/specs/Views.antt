@@ -1,5 +1,5 @@
 -- What is looked at of the state before and after a step, and where its frame went.
-use Rattle.std.specs.Prelude.{Bool, false, not, List, [], ◌∷◌, ◌≡◌, ℕ, ◌/◌, ◌%◌, ◌<◌, eqb, get_or}
+use Rattle.std.specs.Prelude.{Bool, false, not, List, [], ◌∷◌, ◌≡◌, ℕ, ◌/◌, ◌%◌, ◌<◌, eqb, get_or, Option, Some, None}
 use Rattle.base.specs.Base.{pick, one}
 use Rattle.model.specs.Queue.{holds, is_from}
 use Rattle.model.specs.Registers.{read_word, bank_count}
@@ -12,11 +12,11 @@ use Rattle.model.specs.declared.Core.{Core}
 use Rattle.model.specs.declared.Filters.{Filters}
 use Rattle.model.specs.declared.Register.{Register}
 use Rattle.model.specs.declared.Register.TheVariants.{Msr, Rfr, Esr}
-use Rattle.model.specs.declared.Acceptance.{Acceptance}
-use Rattle.model.specs.declared.Acceptance.TheVariants.{Into, Rejected}
 use Rattle.model.specs.declared.Step as steps
 use Rattle.model.specs.declared.Step.TheVariants.{Reset, Read, Write, Idle, BitTimes, Activity, Start, Outcome, Receive, ReceiveError}
 use Rattle.account.specs.declared.Taken.{Taken}
+use Rattle.model.specs.declared.FilterNumber.{FilterNumber}
+use Rattle.model.specs.declared.Fifo.{Fifo}
 
 -- 0 empty, 1 pending, 2 on the wire
 unfoldable pub mailbox_state : Queue → Mailbox → ℕ
@@ -47,10 +47,10 @@ view_of c =
 pub record Changes (old new : List ℕ) (r : List Bool) : Type 0 where
   pub each : (i : ℕ) → i < 12 → get_or r i false ≡ not (eqb (get_or old i 0) (get_or new i 0))
 
-abbrev pub taken_as : Acceptance → Taken
-taken_as (Into F0 n) = record { by = 2; filter = n.0 }
-taken_as (Into F1 n) = record { by = 3; filter = n.0 }
-taken_as Rejected = record { by = 1; filter = 0 }
+abbrev pub taken_as : Option (Fifo × FilterNumber) → Taken
+taken_as (Some (F0, n)) = record { by = 2; filter = n.0 }
+taken_as (Some (F1, n)) = record { by = 3; filter = n.0 }
+taken_as None = record { by = 1; filter = 0 }
 
 abbrev pub no_frame : Taken
 no_frame = record { by = 0; filter = 0 }

@@ -6,7 +6,7 @@ ghost use Rattle.std.specs.Prelude.{◌≡◌};
 ghost use Rattle.account.specs.Accounts as accounts;
 ghost use Rattle.account.specs.Views as views;
 
-use model::{Acceptance, Controller, Core, Fifo, Filters, Mailbox, Queue, Step, Stepped};
+use model::{Controller, Core, Fifo, FilterNumber, Filters, Mailbox, Queue, Step, Stepped};
 use places::Place;
 
 pub mod faults; // what is wrong with a record that can't be read
@@ -72,11 +72,11 @@ pub struct Taken {
     pub filter: u32,
 }
 
-fn taken_as(a: Acceptance) -> Taken
+fn taken_as(a: Option<(Fifo, FilterNumber)>) -> Taken
     ensures { result ≡ views.taken_as a }
 {
     match a {
-        Acceptance::Into(f, n) => match f {
+        Some((f, n)) => match f {
             Fifo::F0 => Taken {
                 by: 2,
                 filter: n.0 as u32,
@@ -86,7 +86,7 @@ fn taken_as(a: Acceptance) -> Taken
                 filter: n.0 as u32,
             },
         },
-        Acceptance::Rejected => Taken { by: 1, filter: 0 },
+        None => Taken { by: 1, filter: 0 },
     }
 }
 

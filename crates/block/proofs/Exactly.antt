@@ -1,4 +1,5 @@
 -- A block is refused exactly when no state within the ranges saves to its bytes.
+use Rattle.std.proofs.Common.{Option}
 use mathlib.Core.Bool.{Bool, true, false, ◌&&◌, false≢true}
 use mathlib.Core.List.{List}
 use mathlib.Core.Path.{◌≡◌, refl, sym, subst, ap, ◌∙◌}
@@ -11,7 +12,6 @@ use Rattle.base.specs.Base.{pick}
 use Rattle.base.proofs.Choices.{Is, and_l, and_r, and_both}
 use Rattle.model.specs.Reachable.{InRange, carried}
 use Rattle.model.specs.Records.{Bytes}
-use Rattle.model.specs.declared.Sender.{Sender}
 use Rattle.model.specs.declared.Core.{Core}
 use Rattle.model.specs.declared.Controller.{Controller}
 use Rattle.model.proofs.FromAnywhere.{from-state}
@@ -24,6 +24,7 @@ use Rattle.block.proofs.Lengths.{saved-length}
 use Rattle.block.proofs.Round.{core-saved, decoded-saved}
 use Rattle.block.proofs.Formed.{saved-decoded, canonical-saved}
 use Rattle.block.proofs.Widths.{widths}
+use Rattle.model.specs.declared.Mailbox.{Mailbox}
 
 -- the bytes of a state in range are accepted
 saved-accepted : (z : Controller) → InRange z → Is (accepts (saved z))
@@ -95,7 +96,7 @@ waiting_order : (z : Controller) → WaitingOrder z
 waiting_order z = record {
   names = λ m. (flags-shown z m).tme;
   once = λ r. r.core.transmit.queue.once;
-  wire = λ r m e. subst (λ (s : Sender). Is (carried s z.core.transmit.queue.order)) e r.core.transmit.queue.carries;
+  wire = λ r m e. subst (λ (s : Option Mailbox). Is (carried s z.core.transmit.queue.order)) e r.core.transmit.queue.carries;
   normal = λ r. r.core.wire.normal;
   on = λ r. r.core.wire.on;
 }

@@ -1,4 +1,5 @@
 -- A block of the one form is what saving the state in it gives; and what saving gives has that form.
+use Rattle.std.proofs.Common.{Option, Some, None}
 use mathlib.Core.Bool.{Bool, true, false, ◌&&◌}
 use mathlib.Core.List.{List, [], ◌∷◌}
 use mathlib.Core.Path.{◌≡◌, refl, sym, subst, ◌∙◌}
@@ -16,8 +17,6 @@ use Rattle.model.specs.Script.{byte_at, number16, number32}
 use Rattle.model.specs.declared.Mailbox.TheVariants.{M0, M1, M2}
 use Rattle.model.specs.declared.Mode.{Mode}
 use Rattle.model.specs.declared.Mode.TheVariants.{Sleep, Initialization, Normal}
-use Rattle.model.specs.declared.Sender.{Sender}
-use Rattle.model.specs.declared.Sender.TheVariants.{Nobody, From}
 use Rattle.model.specs.declared.RequestOrder.{RequestOrder}
 use Rattle.model.specs.declared.Controller.{Controller}
 use Rattle.model.proofs.Orders.{each}
@@ -28,6 +27,7 @@ use Rattle.block.proofs.Pieces.{Stands, pieces, stands_append, stands_byte, stan
 use Rattle.block.proofs.Lengths.{control-length, errors-length, mailbox-length, transmit-length, fifo-length, core-length, saved-length}
 use Rattle.block.proofs.Banks.{words-length}
 use Rattle.block.proofs.Small.{flag_of, mode_of, sender_of, order_of}
+use Rattle.model.specs.declared.Mailbox.{Mailbox}
 
 -- ---- from the form to the bytes
 
@@ -229,11 +229,11 @@ mode-form Sleep = refl
 mode-form Initialization = refl
 mode-form Normal = refl
 
-sender_form : (s : Sender) → Is (leb (sender_byte s) 3)
-sender_form Nobody = refl
-sender_form (From M0) = refl
-sender_form (From M1) = refl
-sender_form (From M2) = refl
+sender_form : (s : Option Mailbox) → Is (leb (sender_byte s) 3)
+sender_form None = refl
+sender_form (Some M0) = refl
+sender_form (Some M1) = refl
+sender_form (Some M2) = refl
 
 order-form : (o : RequestOrder) → Is (order_ok (order_byte0 o) (order_byte1 o) (order_byte2 o))
 unfolding order_ok

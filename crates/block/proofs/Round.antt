@@ -1,4 +1,5 @@
 -- What was saved is read back: each part of the state stands at its place, and its bytes give it back.
+use Rattle.std.proofs.Common.{Option, Some, None}
 use mathlib.Core.Bool.{Bool, true, false, not}
 use mathlib.Core.List.{List, [], ◌∷◌}
 use mathlib.Core.Path.{◌≡◌, refl, sym, ap, ◌∙◌}
@@ -13,8 +14,6 @@ use Rattle.model.specs.Mailboxes.{at}
 use Rattle.model.specs.Reachable.{MailboxRange, FrameRange, FifoRange, FilterRange, Words, ControlRange, InRange}
 use Rattle.model.specs.declared.Mailbox.{Mailbox}
 use Rattle.model.specs.declared.Mailbox.TheVariants.{M0, M1, M2}
-use Rattle.model.specs.declared.Sender.{Sender}
-use Rattle.model.specs.declared.Sender.TheVariants.{Nobody, From}
 use Rattle.model.specs.declared.RequestOrder.{RequestOrder}
 use Rattle.model.specs.declared.RequestOrder.TheVariants.{Empty, One, Two, Three}
 use Rattle.model.specs.declared.Queue.{Queue}
@@ -69,12 +68,12 @@ number-back M0 = refl
 number-back M1 = refl
 number-back M2 = refl
 
-sender_back : (s : Sender) → sender_at (sender_byte s) ≡ s
+sender_back : (s : Option Mailbox) → sender_at (sender_byte s) ≡ s
 unfolding sender_at
-sender_back Nobody = refl
-sender_back (From M0) = refl
-sender_back (From M1) = refl
-sender_back (From M2) = refl
+sender_back None = refl
+sender_back (Some M0) = refl
+sender_back (Some M1) = refl
+sender_back (Some M2) = refl
 
 not_none : (m : Mailbox) → eqb (number m) 3 ≡ false
 not_none M0 = refl

@@ -1,13 +1,11 @@
 -- The state block: a controller as tagged fields, one for each part of the state, and a controller read from such bytes.
 -- Document 02: Q-2. docs/BLOCK.md has the same as tables. A field is a tag byte, two length bytes low first, and a body; numbers stand
 -- low byte first, a flag is a byte 0 or 1.
-use Rattle.std.specs.Prelude.{Bool, not, ◌&&◌, ◌||◌, List, [], ◌∷◌, ◌++◌, ℕ, zero, suc, ◌+◌, ◌/◌, ◌%◌, ◌^◌, eqb, leb, drop}
+use Rattle.std.specs.Prelude.{Bool, not, ◌&&◌, ◌||◌, List, [], ◌∷◌, ◌++◌, ℕ, zero, suc, ◌+◌, ◌/◌, ◌%◌, ◌^◌, eqb, leb, drop, Option, Some, None}
 use Rattle.base.specs.Base.{pick, one}
 use Rattle.model.specs.Queue.{number, numbered}
 use Rattle.model.specs.Control.{mode_bits}
 use Rattle.model.specs.Script.{byte_at, number16, number32}
-use Rattle.model.specs.declared.Sender.{Sender}
-use Rattle.model.specs.declared.Sender.TheVariants.{Nobody, From}
 use Rattle.model.specs.declared.RequestOrder.{RequestOrder}
 use Rattle.model.specs.declared.RequestOrder.TheVariants.{Empty, One, Two, Three}
 use Rattle.model.specs.declared.Queue.{Queue}
@@ -23,6 +21,7 @@ use Rattle.model.specs.declared.Errors.{Errors}
 use Rattle.model.specs.declared.Core.{Core}
 use Rattle.model.specs.declared.Controller.{Controller}
 use Rattle.ranges.specs.Ranges.{all}
+use Rattle.model.specs.declared.Mailbox.{Mailbox}
 
 -- ---- numbers
 
@@ -39,12 +38,12 @@ unfoldable pub mode_at : ℕ → Mode
 mode_at n = pick (eqb n 0) Normal (pick (eqb n 1) Initialization Sleep)
 
 -- a mailbox by its number, 3 for none
-abbrev pub sender_byte : Sender → ℕ
-sender_byte Nobody = 3
-sender_byte (From m) = number m
+abbrev pub sender_byte : Option Mailbox → ℕ
+sender_byte None = 3
+sender_byte (Some m) = number m
 
-unfoldable pub sender_at : ℕ → Sender
-sender_at n = pick (eqb n 3) Nobody (From (numbered n))
+unfoldable pub sender_at : ℕ → Option Mailbox
+sender_at n = pick (eqb n 3) None (Some (numbered n))
 
 -- the request order as three such bytes, the oldest first
 abbrev pub order_byte0 : RequestOrder → ℕ

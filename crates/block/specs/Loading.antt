@@ -1,5 +1,5 @@
 -- Which blocks are accepted, what loading and saving give, and the promises about them. Document 02: Q-2.
-use Rattle.std.specs.Prelude.{Bool, ◌&&◌, true, false, not, List, ◌≡◌, ℕ, eqb, length, drop}
+use Rattle.std.specs.Prelude.{Bool, ◌&&◌, true, false, not, List, ◌≡◌, ℕ, eqb, length, drop, Some}
 use Rattle.std.proofs.lemmas.List.Edits.{sets}
 use Rattle.base.specs.Base.{pick}
 use Rattle.model.specs.Queue.{holds}
@@ -10,7 +10,6 @@ use Rattle.model.specs.Reachable.{InRange, distinct}
 use Rattle.model.specs.Records.{Bytes}
 use Rattle.model.specs.Anywhere.{FromState}
 use Rattle.model.specs.declared.Mailbox.{Mailbox}
-use Rattle.model.specs.declared.Sender.TheVariants.{From}
 use Rattle.model.specs.declared.Core.{Core}
 use Rattle.model.specs.declared.Controller.{Controller}
 use Rattle.model.specs.declared.Step as steps
@@ -81,7 +80,7 @@ pub record SavedLoads (z : Controller) : Type 0 where
 pub record WaitingOrder (z : Controller) : Type 0 where
   pub names : (m : Mailbox) → tme m z ≡ not (holds z.core.transmit.queue.order m)
   pub once : InRange z → distinct z.core.transmit.queue.order ≡ true
-  pub wire : InRange z → (m : Mailbox) → z.core.transmit.queue.transmitting ≡ From m → holds z.core.transmit.queue.order m ≡ true
+  pub wire : InRange z → (m : Mailbox) → z.core.transmit.queue.transmitting ≡ Some m → holds z.core.transmit.queue.order m ≡ true
   pub normal : InRange z → is_free z.core ≡ false → is_normal z.core.control.mode ≡ true
   pub on : InRange z → is_free z.core ≡ false → boff z.core.errors ≡ false
 

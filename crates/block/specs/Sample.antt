@@ -1,10 +1,9 @@
 -- Two blocks byte for byte: that of the reset state, and one with something in every field. docs/BLOCK.md.
-use Rattle.std.specs.Prelude.{true, false, List, [], ◌∷◌, ◌++◌, ◌≡◌, ℕ, replicate, set}
+use Rattle.std.specs.Prelude.{true, false, List, [], ◌∷◌, ◌++◌, ◌≡◌, ℕ, replicate, set, Some}
 use Rattle.model.specs.Registers.{reset}
 use Rattle.model.specs.Reception.{no_frame}
 use Rattle.model.specs.Records.{bytes_of}
 use Rattle.model.specs.declared.Mailbox.TheVariants.{M0, M2}
-use Rattle.model.specs.declared.Sender.TheVariants.{From}
 use Rattle.model.specs.declared.RequestOrder.TheVariants.{Two}
 use Rattle.model.specs.declared.Mode.TheVariants.{Normal}
 use Rattle.model.specs.declared.Controller.{Controller}
@@ -38,7 +37,7 @@ busy = record {
         m1 = record { ti = 0x00a00000; tdt = 0x22330008; tdl = 0x14131211; tdh = 0x18171615; rqcp = true; txok = true; alst = false; terr = false };
         m2 = record { ti = 0x91a2b3c6; tdt = 0x44550005; tdl = 0x24232221; tdh = 0x28272625; rqcp = false; txok = false; alst = true; terr = false };
       };
-      queue = record { order = Two M2 M0; transmitting = From M2; aborts = record { m0 = false; m1 = false; m2 = true } };
+      queue = record { order = Two M2 M0; transmitting = Some M2; aborts = record { m0 = false; m1 = false; m2 = true } };
     };
     fifo0 = record {
       first = record { ri = 0x24600000; rdt = 0x10010702; rdl = 0x00003231; rdh = 0x00000000 };

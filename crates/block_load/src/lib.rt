@@ -5,7 +5,7 @@ ghost use Rattle.std.specs.Prelude.{◌≡◌, ◌≤◌, length};
 ghost use Rattle.block.specs.Block as blocks;
 ghost use Rattle.block_load.specs.Loaded as loading;
 
-use model::{Controller, Core, Mailboxes, Transmit};
+use model::{ByMailbox, Controller, Core, Transmit};
 
 mod form; // form.rt: whether what stands beside the numbers is as saving writes it
 mod numbers; // numbers.rt: numbers and flags in bytes
@@ -20,7 +20,7 @@ fn transmit_at(b: &[u8]) -> Transmit
     let m2 = take::mailbox_at(b, 76);
     let q = take::queue_at(b);
     Transmit {
-        mailboxes: Mailboxes {
+        mailboxes: ByMailbox {
             m0: m0,
             m1: m1,
             m2: m2,

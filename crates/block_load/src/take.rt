@@ -4,10 +4,7 @@ ghost use Rattle.model.specs.Queue as queues;
 ghost use Rattle.block.specs.Block as blocks;
 
 use crate::numbers::{byte_at, flag_at, number16, number32};
-use model::{
-    Control, Errors, FifoState, Filters, Mailbox, MailboxBits, MailboxState, Mode, Queue,
-    RequestOrder, Sender, StoredFrame,
-};
+use model::{ByMailbox, Control, Errors, FifoState, Filters, Mailbox, MailboxState, Mode, Queue, RequestOrder, StoredFrame};
 
 fn mode_at(n: u8) -> Mode
     ensures { result ≡ blocks.mode_at n }
@@ -99,13 +96,13 @@ fn numbered(n: u8) -> Mailbox
     Mailbox::M2
 }
 
-fn sender_at(n: u8) -> Sender
+fn sender_at(n: u8) -> Option<Mailbox>
     ensures { result ≡ blocks.sender_at n }
 {
     if n == 3 {
-        return Sender::Nobody;
+        return None;
     }
-    Sender::From(numbered(n))
+    Some(numbered(n))
 }
 
 fn order_at(a: u8, b: u8, c: u8) -> RequestOrder
@@ -135,7 +132,7 @@ pub(crate) fn queue_at(b: &[u8]) -> Queue
     Queue {
         order: order,
         transmitting: transmitting,
-        aborts: MailboxBits {
+        aborts: ByMailbox<bool> {
             m0: m0,
             m1: m1,
             m2: m2,

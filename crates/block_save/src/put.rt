@@ -5,10 +5,7 @@ ghost use Rattle.model.specs.Queue as queues;
 ghost use Rattle.block.specs.Block as blocks;
 
 use crate::numbers::{flag_byte, put1, put2, put3, put4, put16, put32};
-use model::{
-    Control, Errors, FifoState, Filters, Mailbox, MailboxState, Queue, RequestOrder, Sender,
-    StoredFrame,
-};
+use model::{Control, Errors, FifoState, Filters, Mailbox, MailboxState, Queue, RequestOrder, StoredFrame};
 
 pub(crate) fn put_control(b: &mut [u8], k: Control)
     requires { 23 ≤ length b.old }
@@ -84,12 +81,12 @@ fn number(m: Mailbox) -> u8
     }
 }
 
-fn sender_byte(s: Sender) -> u8
+fn sender_byte(s: Option<Mailbox>) -> u8
     ensures { result ≡ blocks.sender_byte s }
 {
     match s {
-        Sender::Nobody => 3,
-        Sender::From(m) => number(m),
+        None => 3,
+        Some(m) => number(m),
     }
 }
 

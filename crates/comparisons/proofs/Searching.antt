@@ -1,17 +1,16 @@
 -- Which steps search the filters. Assumes nothing.
-use Rattle.std.proofs.Common.{◌≡◌, ℕ, Bool, true, false, not, ◌&&◌, eqb, [], refl, ne_eqb}
+use Rattle.std.proofs.Common.{◌≡◌, ℕ, Bool, true, false, not, ◌&&◌, eqb, [], refl, ne_eqb, Option, Some, None}
 use Rattle.model.specs.Control.{lbkm}
 use Rattle.model.specs.declared.Core.{Core}
-use Rattle.model.specs.declared.Sender.{Sender}
-use Rattle.model.specs.declared.Sender.TheVariants.{Nobody, From}
 use Rattle.comparisons.specs.Searches.{searched_numbers, looped_word, accepted_word, searched_word, Searching}
+use Rattle.model.specs.declared.Mailbox.{Mailbox}
 
 module _ (c : Core) where
   -- one of the three conditions fails
-  fails : (s : Sender) (r : ℕ) → (eqb r 0 && lbkm c.control && not c.filters.finit) ≡ false → searched_numbers (looped_word s c r) ≡ []
+  fails : (s : Option Mailbox) (r : ℕ) → (eqb r 0 && lbkm c.control && not c.filters.finit) ≡ false → searched_numbers (looped_word s c r) ≡ []
   unfolding looped_word
-  fails Nobody r e = refl
-  fails (From m) r e = rw e
+  fails None r e = refl
+  fails (Some m) r e = rw e
 
   without-second : (a b : Bool) → (a && false && b) ≡ false
   without-second true b = refl

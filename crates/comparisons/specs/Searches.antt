@@ -1,6 +1,6 @@
 -- Which steps search the filters, for which identifier word, and how many filters a search compares.
 -- c is the controller before the step but for its banks' words, e the step, code its code.
-use Rattle.std.specs.Prelude.{◌≡◌, ℕ, true, false, not, ◌&&◌, List, [], ◌∷◌, ◌==◌, ◌≢◌}
+use Rattle.std.specs.Prelude.{◌≡◌, ℕ, true, false, not, ◌&&◌, List, [], ◌∷◌, ◌==◌, ◌≢◌, Option, Some, None}
 use Rattle.base.specs.Base.{pick}
 use Rattle.model.specs.Control.{lbkm}
 use Rattle.model.specs.Mailboxes.{at}
@@ -9,8 +9,6 @@ use Rattle.model.specs.declared.Controller.{Controller}
 use Rattle.model.specs.declared.Core.{Core}
 use Rattle.model.specs.declared.Frame.{Frame}
 use Rattle.model.specs.declared.Mailbox.{Mailbox}
-use Rattle.model.specs.declared.Sender.{Sender}
-use Rattle.model.specs.declared.Sender.TheVariants.{Nobody, From}
 use Rattle.model.specs.declared.Step as steps
 use Rattle.model.specs.declared.Step.TheVariants.{Reset, Read, Write, Idle, BitTimes, Activity, Start, Outcome, Receive, ReceiveError}
 use Rattle.filter.specs.Compared.{compared}
@@ -24,9 +22,9 @@ searched_numbers Nothing = []
 
 -- the frame of the mailbox on the wire ended with result r. Document 01, "Bus events", own end: "Good: .. with LBKM=1 and FINIT=0 the
 -- frame also passes the filters"; "Order, filters, storage": "EXID of a standard mailbox is .. sent as 0"
-unfoldable pub looped_word : Sender → Core → ℕ → Searched
-looped_word Nobody c r = Nothing
-looped_word (From m) c r =
+unfoldable pub looped_word : Option Mailbox → Core → ℕ → Searched
+looped_word None c r = Nothing
+looped_word (Some m) c r =
     pick (r == 0 && lbkm c.control && not c.filters.finit)
     (Word (sent_frame (at c.transmit.mailboxes m)).identifier)
     Nothing
@@ -52,9 +50,9 @@ searched_word c e code = pick (code == 0) (accepted_word c e) Nothing
 -- an accepted frame and the good end of a frame in loopback are searched for, and nothing else
 pub record Searching (c : Core) : Type 0 where
   pub frame : (x : Frame) → searched_numbers (searched_word c (Receive x) 0) ≡ x.identifier ∷ []
-  pub loopback : (m : Mailbox) → c.transmit.queue.transmitting ≡ From m → lbkm c.control ≡ true → c.filters.finit ≡ false
+  pub loopback : (m : Mailbox) → c.transmit.queue.transmitting ≡ Some m → lbkm c.control ≡ true → c.filters.finit ≡ false
       → searched_numbers (searched_word c (Outcome 0) 0) ≡ (sent_frame (at c.transmit.mailboxes m)).identifier ∷ []
-  pub off_the_wire : (r : ℕ) → c.transmit.queue.transmitting ≡ Nobody → searched_numbers (searched_word c (Outcome r) 0) ≡ []
+  pub off_the_wire : (r : ℕ) → c.transmit.queue.transmitting ≡ None → searched_numbers (searched_word c (Outcome r) 0) ≡ []
   pub not_good : (r : ℕ) → (r ≢ 0) → searched_numbers (searched_word c (Outcome r) 0) ≡ []
   pub no_loopback : (r : ℕ) → lbkm c.control ≡ false → searched_numbers (searched_word c (Outcome r) 0) ≡ []
   pub initializing : (r : ℕ) → c.filters.finit ≡ true → searched_numbers (searched_word c (Outcome r) 0) ≡ []

@@ -2,7 +2,7 @@
 ghost use Rattle.std.specs.Prelude.{◌≡◌};
 ghost use Rattle.comparisons.specs.Searches as searches;
 
-use model::{Controller, Core, Sender, Step};
+use model::{Controller, Core, Mailbox, Step};
 
 // The identifier word that the filters are searched for, or no search.
 #[derive(Clone, Copy)]
@@ -13,12 +13,12 @@ pub enum Searched {
 
 // Loopback: the frame of the mailbox on the wire ended with result r.
 #[tactic(auto, unfolding(crate::specs::Searches::looped_word))]
-fn looped_word(s: Sender, c: Core, r: u8) -> Searched
+fn looped_word(s: Option<Mailbox>, c: Core, r: u8) -> Searched
     ensures { result ≡ searches.looped_word s c r }
 {
     match s {
-        Sender::Nobody => Searched::Nothing,
-        Sender::From(m) => {
+        None => Searched::Nothing,
+        Some(m) => {
             let k = c.control;
             let g = c.filters;
             if (r == 0) & control::lbkm(k) & !g.finit {

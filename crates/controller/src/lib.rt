@@ -6,7 +6,7 @@ ghost use Rattle.model.specs.Registers as map;
 ghost use Rattle.model.specs.Step as stepping;
 ghost use Rattle.controller.specs.After as after;
 
-use model::{Control, Controller, Core, Errors, Filters, Mailboxes, Step, Stepped, Transmit};
+use model::{ByMailbox, Control, Controller, Core, Errors, Filters, Step, Stepped, Transmit};
 
 mod same; // same.rt: the core field by field
 
@@ -27,7 +27,7 @@ fn core_reset() -> Core
             lec: 0,
         },
         transmit: Transmit {
-            mailboxes: Mailboxes {
+            mailboxes: ByMailbox {
                 m0: x,
                 m1: x,
                 m2: x,

@@ -2,9 +2,7 @@
 // apart.
 ghost use Rattle.std.specs.Prelude.{◌≡◌};
 
-use model::{
-    Core, FifoState, Filters, MailboxBits, MailboxState, Mailboxes, Queue, StoredFrame, Transmit,
-};
+use model::{ByMailbox, Core, FifoState, Filters, MailboxState, Queue, StoredFrame, Transmit};
 
 fn frame(x: StoredFrame) -> StoredFrame
     ensures { result ≡ x }
@@ -45,10 +43,10 @@ fn mailbox(x: MailboxState) -> MailboxState
     }
 }
 
-fn bits(f: MailboxBits) -> MailboxBits
+fn bits(f: ByMailbox<bool>) -> ByMailbox<bool>
     ensures { result ≡ f }
 {
-    MailboxBits {
+    ByMailbox {
         m0: f.m0,
         m1: f.m1,
         m2: f.m2,
@@ -72,7 +70,7 @@ fn transmit(t: Transmit) -> Transmit
 {
     let b = t.mailboxes;
     Transmit {
-        mailboxes: Mailboxes {
+        mailboxes: ByMailbox {
             m0: mailbox(b.m0),
             m1: mailbox(b.m1),
             m2: mailbox(b.m2),

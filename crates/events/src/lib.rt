@@ -6,7 +6,7 @@ ghost use Rattle.model.specs.Reception as reception;
 ghost use Rattle.model.specs.Step as stepping;
 ghost use Rattle.model.specs.declared.Step.TheVariants as steps;
 
-use model::{Acceptance, Core, Errors, Fifo, Frame, Mailbox, MailboxState, Sender, StoredFrame};
+use model::{Core, Errors, Fifo, FilterNumber, Frame, Mailbox, MailboxState, StoredFrame};
 
 // ---- idle, bit times, activity, receive errors
 
@@ -65,8 +65,8 @@ pub fn start(c: Core) -> Core
     let mut d = c;
     d.errors = control::same_errors(c.errors);
     match s {
-        Sender::Nobody => d,
-        Sender::From(m) => {
+        None => d,
+        Some(m) => {
             d.transmit = mailboxes::wire::started(t, m, k.timer);
             d
         }
@@ -101,7 +101,7 @@ pub fn frame_received(c: Core, banks: &[u32; 28], x: Frame) -> Core
 // ---- the end of the frame on the wire
 
 // Loopback: where the good frame of a mailbox goes.
-fn looped_back(c: Core, banks: &[u32; 28], m: Mailbox, r: u8) -> Acceptance
+fn looped_back(c: Core, banks: &[u32; 28], m: Mailbox, r: u8) -> Option<(Fifo, FilterNumber)>
     ensures { result ≡ stepping.looped_back c banks.now m r }
 {
     let k = c.control;
@@ -119,11 +119,11 @@ fn looped_back(c: Core, banks: &[u32; 28], m: Mailbox, r: u8) -> Acceptance
         );
         return filter::accepted_by(v);
     }
-    Acceptance::Rejected
+    None
 }
 
 // The frame of a mailbox as it is stored, with the mailbox's TIME.
-fn looped_frame(x: MailboxState, a: Acceptance) -> StoredFrame
+fn looped_frame(x: MailboxState, a: Option<(Fifo, FilterNumber)>) -> StoredFrame
     ensures { result ≡ reception.stored_frame (reception.sent_frame x) (reception.fmi_of a) (x.tdt / 65536) }
 {
     let time = (x.tdt / 65536) as u16;
@@ -139,8 +139,8 @@ pub fn outcome(c: Core, banks: &[u32; 28], res: u8) -> Core
     let s = q.transmitting;
     let mut d = c;
     match s {
-        Sender::Nobody => d,
-        Sender::From(m) => {
+        None => d,
+        Some(m) => {
             let b = t.mailboxes;
             let x = mailboxes::at(b, m);
             let a = looped_back(c, banks, m, res);

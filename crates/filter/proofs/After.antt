@@ -1,5 +1,5 @@
 -- FIFO 1 after FIFO 0's match: the banks that are left out can't win, and the others are all that is compared. Assumes nothing.
-use Rattle.std.proofs.Common.{◌≡◌, ℕ, ◌+◌, ◌-◌, ◌*◌, ◌%◌, ◌^◌, ◌<◌, ◌≤◌, Bool, true, false, ltb, List, sym, refl, ap, ◌∙◌, inl, inr, arith, ltb-false, le-ltb}
+use Rattle.std.proofs.Common.{◌≡◌, ℕ, ◌+◌, ◌-◌, ◌*◌, ◌%◌, ◌^◌, ◌<◌, ◌≤◌, Bool, true, false, ltb, List, sym, refl, ap, ◌∙◌, inl, inr, arith, ltb-false, le-ltb, Option, Some, None}
 use Rattle.model.specs.Banks.{bank, filter_number, first_number}
 use Rattle.model.specs.Search.{first, searched, tried, hit_at, hit_in, first_hit, better, acceptance}
 use Rattle.model.specs.declared.Filters.{Filters}
@@ -7,8 +7,6 @@ use Rattle.model.specs.declared.Bank.{Bank}
 use Rattle.model.specs.declared.Fifo.TheVariants.{F0, F1}
 use Rattle.model.specs.declared.FilterNumber.{FilterNumber}
 use Rattle.model.specs.declared.FilterClass.{FilterClass}
-use Rattle.model.specs.declared.Hit.{Hit}
-use Rattle.model.specs.declared.Hit.TheVariants.{Filter, Nothing}
 use Rattle.model.proofs.FirstHit.{lower as below, first-at, FirstOfRow, nowhere, at, first_of-row}
 use Rattle.model.proofs.FilterNumbers.{first_number_lem}
 use Rattle.model.proofs.LowestNumber.{number-in_bank}
@@ -27,11 +25,11 @@ use Rattle.filter.proofs.Winners.{number-found, lower-wins}
 
 module _ (g : Filters) (v : List ℕ) (w : ℕ) (k : FilterClass) (x : FilterNumber) where
   -- the match of a bank of FIFO 1, and what is found of it after FIFO 0's match x
-  abbrev whole : ℕ → Hit
+  abbrev whole : ℕ → Option FilterNumber
   whole i = first (hit_at 14 g v w k F1 (bank i)) (tried g k F1 (bank i))
 
-  abbrev part : ℕ → Hit
-  part i = first (hit_at 14 g v w k F1 (bank i)) (tried_after 14 g k (Filter x) (bank i))
+  abbrev part : ℕ → Option FilterNumber
+  part i = first (hit_at 14 g v w k F1 (bank i)) (tried_after 14 g k (Some x) (bank i))
 
   abbrev low : ℕ → Bool
   low i = ltb (first_number 14 g F1 (bank i)).0 x.0
@@ -40,24 +38,24 @@ module _ (g : Filters) (v : List ℕ) (w : ℕ) (k : FilterClass) (x : FilterNum
   unfolding tried_after
   kept i e = rw e
 
-  left_out : (i : ℕ) → low i ≡ false → part i ≡ Nothing
+  left_out : (i : ℕ) → low i ≡ false → part i ≡ None
   unfolding tried_after first
   left_out i e = rw e
 
-  still-nothing : (i : ℕ) → whole i ≡ Nothing → part i ≡ Nothing
+  still-nothing : (i : ℕ) → whole i ≡ None → part i ≡ None
   still-nothing i e = go (low i) refl
     where
-      go : (b : Bool) → low i ≡ b → part i ≡ Nothing
+      go : (b : Bool) → low i ≡ b → part i ≡ None
       go true d = kept i d ∙ e
       go false d = left_out i d
 
   -- a match has no lower number than the first of its bank
-  number-from : (i : ℕ) (y : FilterNumber) → whole i ≡ Filter y → (first_number 14 g F1 (bank i)).0 ≤ y.0
+  number-from : (i : ℕ) (y : FilterNumber) → whole i ≡ Some y → (first_number 14 g F1 (bank i)).0 ≤ y.0
   unfolding hit_in
   number-from i y e = (number-in_bank 14 g v w k F1 (bank i) y e).0
 
   -- behind a bank that is left out all are
-  none_after : (i : ℕ) → low i ≡ false → ((j : ℕ) → j < i → whole j ≡ Nothing) → (j : ℕ) → j < 14 → part j ≡ Nothing
+  none_after : (i : ℕ) → low i ≡ false → ((j : ℕ) → j < i → whole j ≡ None) → (j : ℕ) → j < 14 → part j ≡ None
   none_after i e none j h = elim (below j i) [
     | inl l ↦ still-nothing j (none j l)
     | inr l ↦ let start = ltb-false (first_number 14 g F1 (bank i)).0 x.0 e in
@@ -68,19 +66,19 @@ module _ (g : Filters) (v : List ℕ) (w : ℕ) (k : FilterClass) (x : FilterNum
   ]
 
   -- so the better of FIFO 0's match and what is found is the better one of both matches
-  pub left_out_loses : better (Filter x) (first_hit 14 g v w k F1) ≡ better (Filter x) (first_of g v w k F1 (tried_after 14 g k (Filter x)))
+  pub left_out_loses : better (Some x) (first_hit 14 g v w k F1) ≡ better (Some x) (first_of g v w k F1 (tried_after 14 g k (Some x)))
   unfolding first_hit hit_in first_of
   left_out_loses = row (first_of-row whole 14)
     where
-      at-bank : (i : ℕ) (y : FilterNumber) (b : Bool) → i < 14 → whole i ≡ Filter y → first whole 14 ≡ Filter y
-          → ((j : ℕ) → j < i → whole j ≡ Nothing) → low i ≡ b → better (Filter x) (first whole 14) ≡ better (Filter x) (first part 14)
+      at-bank : (i : ℕ) (y : FilterNumber) (b : Bool) → i < 14 → whole i ≡ Some y → first whole 14 ≡ Some y
+          → ((j : ℕ) → j < i → whole j ≡ None) → low i ≡ b → better (Some x) (first whole 14) ≡ better (Some x) (first part 14)
       at-bank i y true l d s none e =
           rw (s, first-at part 14 i y l (nothing_below part i (λ j m. still-nothing j (none j m))) (kept i e ∙ d))
       at-bank i y false l d s none e =
           let start = ltb-false (first_number 14 g F1 (bank i)).0 x.0 e in
           rw (s, nothing_below part 14 (none_after i e none), le-ltb y.0 x.0 (omega (arith, number-from i y d)))
 
-      row : FirstOfRow whole 14 → better (Filter x) (first whole 14) ≡ better (Filter x) (first part 14)
+      row : FirstOfRow whole 14 → better (Some x) (first whole 14) ≡ better (Some x) (first part 14)
       row (nowhere s none) = rw (s, nothing_below part 14 (λ j l. still-nothing j (none j l)))
       row (at i y l d s none) = at-bank i y (low i) l d s none refl
 
@@ -97,7 +95,7 @@ module _ (g : Filters) (v : List ℕ) (w : ℕ) (b : BestClass) (s : Best g v w 
       let f = hit-found g F0 b.leading.f0 found in
       let number = e ∙ number-found g F0 b.leading.f0 f.0 f.1 in
       h b.class m (s.rest found) fits less i l
-      ∙ ap (λ (t : Hit). tried_after 14 g b.class t (bank i)) (ap (λ (t : ℕ). Filter (filter_number t)) number ∙ sym f.1)
+      ∙ ap (λ (t : Option FilterNumber). tried_after 14 g b.class t (bank i)) (ap (λ (t : ℕ). Some (filter_number t)) number ∙ sym f.1)
 
   -- with none of them no filter is looked at
   pub none-can_win : (n y : ℕ) → n < 2 ^ 32 → n ≡ number_at g F0 b.leading.f0 → CanWin g n b.leading.rest y

@@ -1,5 +1,5 @@
 -- What a search finds in one class, and the class that wins. Assumes nothing.
-use Rattle.std.proofs.Common.{◌≡◌, ℕ, zero, suc, ◌+◌, ◌/◌, ◌%◌, ◌^◌, ◌<◌, ◌≤◌, Bool, true, false, ◌||◌, eqb, ltb, List, [], ◌∷◌, length, sym, refl, ap, ◌∙◌, add-zero, arith, length-append, ltb-false, ltb-true, le-ltb, lt-ltb}
+use Rattle.std.proofs.Common.{◌≡◌, ℕ, zero, suc, ◌+◌, ◌/◌, ◌%◌, ◌^◌, ◌<◌, ◌≤◌, Bool, true, false, ◌||◌, eqb, ltb, List, [], ◌∷◌, length, sym, refl, ap, ◌∙◌, add-zero, arith, length-append, ltb-false, ltb-true, le-ltb, lt-ltb, Option, Some, None}
 use lib.Bits.{bit_and, and_zero_l}
 use Rattle.base.specs.Base.{pick, bit}
 use Rattle.model.specs.Banks.{bank, class_of, rank, width, own, number_of}
@@ -11,10 +11,6 @@ use Rattle.model.specs.declared.Fifo.TheVariants.{F0, F1}
 use Rattle.model.specs.declared.FilterNumber.{FilterNumber}
 use Rattle.model.specs.declared.FilterClass.{FilterClass}
 use Rattle.model.specs.declared.FilterClass.TheVariants.{List32, Mask32, List16, Mask16}
-use Rattle.model.specs.declared.Hit.{Hit}
-use Rattle.model.specs.declared.Hit.TheVariants.{Filter, Nothing}
-use Rattle.model.specs.declared.Acceptance.{Acceptance}
-use Rattle.model.specs.declared.Acceptance.TheVariants.{Into, Rejected}
 use Rattle.model.proofs.FirstHit.{width-le}
 use Rattle.model.proofs.Preference.{last-class}
 use Rattle.filter.specs.Compared.{Candidate, of_banks, row, up_to_first, takes_frame, up_to_match, compared_in, is_into, up_to_class, compared_filters, compared}
@@ -29,17 +25,17 @@ use Rattle.filter.proofs.Passed.{no_match_lem, limited-all}
 
 -- ---- the filter at a place, or none
 
-pub hit-found : (g : Filters) (f : Fifo) (p : Place) → p.0 < 128 → (x : FilterNumber) × (hit_of g f p ≡ Filter x)
+pub hit-found : (g : Filters) (f : Fifo) (p : Place) → p.0 < 128 → (x : FilterNumber) × (hit_of g f p ≡ Some x)
 unfolding hit_of
 hit-found g f p h = (number_of 14 g f (bank (p.0 / 4)) (p.0 % 4), rw (lt-ltb p.0 128 h))
 
-pub hit-none : (g : Filters) (f : Fifo) (p : Place) → 128 ≤ p.0 → hit_of g f p ≡ Nothing
+pub hit-none : (g : Filters) (f : Fifo) (p : Place) → 128 ≤ p.0 → hit_of g f p ≡ None
 unfolding hit_of
 hit-none g f p h = rw (le-ltb p.0 128 h)
 
 -- ---- searches of the same filters
 
-first-same : (p q : ℕ → Hit) (n : ℕ) → ((i : ℕ) → i < n → p i ≡ q i) → first p n ≡ first q n
+first-same : (p q : ℕ → Option FilterNumber) (n : ℕ) → ((i : ℕ) → i < n → p i ≡ q i) → first p n ≡ first q n
 unfolding first
 first-same p q zero e = refl
 first-same p q (suc n) e = rw (first-same p q n (λ i l. e i (omega arith)), e n (omega arith))
@@ -51,7 +47,7 @@ first_of-same g v w k f s t e = first-same _ _ 14 (λ i l. ap (first (hit_at 14 
 
 -- where no filter is looked at, nothing is found or compared
 module _ (g : Filters) (v : List ℕ) (w : ℕ) (k : FilterClass) (f : Fifo) (t : Bank → ℕ) (none : (i : ℕ) → i < 14 → t (bank i) ≡ 0) where
-  pub nothing-found : first_of g v w k f t ≡ Nothing
+  pub nothing-found : first_of g v w k f t ≡ None
   nothing-found = no_match_lem g v w k f t (λ i j l h. absurd (omega (arith, none i l)))
 
   pub nothing-compared : length (up_to_first (takes_frame v w k) (of_banks t 14)) ≡ 0
@@ -98,7 +94,7 @@ module _ (g : Filters) (v : List ℕ) (w : ℕ) (k : FilterClass) where
     none_tried f i h =
         sym (among-tried f 0 (λ b l. rw (z, and_zero_l (own f g)) at (searched-bit g k f x b l ha (e b l))) i h) ∙ rw (no_bit i)
 
-    pub none_of_class : (f : Fifo) → first_hit 14 g v w k f ≡ Nothing
+    pub none_of_class : (f : Fifo) → first_hit 14 g v w k f ≡ None
     none_of_class f = sym (first_of-tried f) ∙ nothing-found g v w k f _ (none_tried f)
 
     pub none-compared : length (compared_in 14 g v w k) ≡ 0
@@ -109,17 +105,17 @@ module _ (g : Filters) (v : List ℕ) (w : ℕ) (k : FilterClass) where
 
 -- ---- the class that wins
 
-pub into_any : (x : FilterNumber) (e : Hit) → is_into (better (Filter x) e) ≡ true
-into_any x Nothing = refl
-into_any x (Filter y) = go (ltb y.0 x.0)
+pub into_any : (x : FilterNumber) (e : Option FilterNumber) → is_into (better (Some x) e) ≡ true
+into_any x None = refl
+into_any x (Some y) = go (ltb y.0 x.0)
   where
-    go : (b : Bool) → is_into (pick b (Into F1 y) (Into F0 x)) ≡ true
+    go : (b : Bool) → is_into (pick b (Some (F1, y)) (Some (F0, x))) ≡ true
     go true = refl
     go false = refl
 
-into_stays : (a b : Acceptance) → is_into a ≡ true → or_next a b ≡ a
-into_stays (Into f x) b e = refl
-into_stays Rejected b e = let z : ◌≡◌ {A = ℕ} 0 1 = cc in absurd (omega arith)
+into_stays : (a b : Option (Fifo × FilterNumber)) → is_into a ≡ true → or_next a b ≡ a
+into_stays (Some (f, x)) b e = refl
+into_stays None b e = let z : ◌≡◌ {A = ℕ} 0 1 = cc in absurd (omega arith)
 
 counted_none : (p : Leading) → counted p 0 ≡ p
 unfolding counted
@@ -137,7 +133,7 @@ module _ (g : Filters) (v : List ℕ) (w : ℕ) where
 
   module _ (k : FilterClass) (l : List FilterClass) (m : ℕ) (p : Leading) (h : Leads g v w k p) (s : Reaches (k ∷ l) m) where
     -- the better one of the two FIFOs
-    abbrev here : Acceptance
+    abbrev here : Option (Fifo × FilterNumber)
     here = better (first_hit 14 g v w k F0) (first_hit 14 g v w k F1)
 
     length_here : length (up_to_class (first_hit 14 g v w) (compared_in 14 g v w) (k ∷ l))
@@ -157,8 +153,8 @@ module _ (g : Filters) (v : List ℕ) (w : ℕ) where
         go false true d₀ d₁ e = let z : ◌≡◌ {A = ℕ} 0 1 = cc in absurd (omega arith)
         go false false d₀ d₁ e =
             let far = ltb-false p.f0.0 128 d₀ in
-            let none₀ : first_hit 14 g v w k F0 ≡ Nothing = sym h.hit0 ∙ hit-none g F0 p.f0 far in
-            let none₁ : first_hit 14 g v w k F1 ≡ Nothing = sym (h.hit1 far) ∙ hit-none g F1 p.f1 (ltb-false p.f1.0 128 d₁) in
+            let none₀ : first_hit 14 g v w k F0 ≡ None = sym h.hit0 ∙ hit-none g F0 p.f0 far in
+            let none₁ : first_hit 14 g v w k F1 ≡ None = sym (h.hit1 far) ∙ hit-none g F1 p.f1 (ltb-false p.f1.0 128 d₁) in
             record {
               accepted = rw (none₀, none₁) at s.accepted;
               counts = omega (arith, s.counts, rw (none₀, none₁) at length_here, h.compared1 far);

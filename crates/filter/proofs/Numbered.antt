@@ -1,5 +1,5 @@
 -- The banks of FIFO 1 in the order of their first numbers: a walk that adds up their widths knows which lie below a number. Assumes nothing.
-use Rattle.std.proofs.Common.{◌≡◌, ℕ, zero, suc, ◌+◌, ◌-◌, ◌*◌, ◌/◌, ◌%◌, ◌^◌, ◌<◌, ◌≤◌, Bool, true, false, not, ◌&&◌, ◌||◌, eqb, ltb, leb, ◌⊎◌, sym, refl, ap, ◌∙◌, inl, inr, arith, shr-shr, ltb-true, le-ltb, lt-ltb, eqb-true, le-leb, leb-false, leb-true}
+use Rattle.std.proofs.Common.{◌≡◌, ℕ, zero, suc, ◌+◌, ◌-◌, ◌*◌, ◌/◌, ◌%◌, ◌^◌, ◌<◌, ◌≤◌, Bool, true, false, not, ◌&&◌, ◌||◌, eqb, ltb, leb, ◌⊎◌, sym, refl, ap, ◌∙◌, inl, inr, arith, shr-shr, ltb-true, le-ltb, lt-ltb, eqb-true, le-leb, leb-false, leb-true, Some}
 use borrow.Author.Tests.{eqb-false, lt-leb}
 use lib.Bits.{bit_and, and_le_l}
 use lib.Count.{count_trailing_zeros}
@@ -12,7 +12,6 @@ use Rattle.model.specs.declared.Bank.{Bank}
 use Rattle.model.specs.declared.FilterClass.{FilterClass}
 use Rattle.model.specs.declared.Fifo.{Fifo}
 use Rattle.model.specs.declared.Fifo.TheVariants.{F1}
-use Rattle.model.specs.declared.Hit.TheVariants.{Filter}
 use Rattle.model.proofs.Digits.{for_digit}
 use Rattle.model.proofs.FirstHit.{lower}
 use Rattle.model.proofs.FilterNumbers.{first_number_lem, numbers_below-le}
@@ -201,7 +200,7 @@ one_less a m n h o z = elim (lower a n) [
 module _ (g : Filters) (n x : ℕ) (k : FilterClass) (m : ℕ) (rest : Rest g k x) (fits : m < 2 ^ 32) (less : OneLess m n) where
   -- of the searched banks those that begin below n
   module _ (y : ℕ) (exact : (b : Bank) → b.0 < 14 → bit b.0 y ≡ (bit b.0 x && ltb (first_number 14 g F1 b).0 n)) where
-    looked_at : (i : ℕ) → i < 14 → among k y (bank i) ≡ tried_after 14 g k (Filter (filter_number n)) (bank i)
+    looked_at : (i : ℕ) → i < 14 → among k y (bank i) ≡ tried_after 14 g k (Some (filter_number n)) (bank i)
     unfolding tried_after tried
     looked_at i l =
         rw (exact (bank i) l, rest (bank i) l) (of_both (searched g k F1 (bank i)) (ltb (first_number 14 g F1 (bank i)).0 n) (width k))
@@ -215,14 +214,14 @@ module _ (g : Filters) (n x : ℕ) (k : FilterClass) (m : ℕ) (rest : Rest g k 
         go false = omega arith
 
     -- with no more than m filters before them
-    pub begin_below : (i : ℕ) → i < 14 → limited m (among k y) (bank i) ≡ tried_after 14 g k (Filter (filter_number n)) (bank i)
+    pub begin_below : (i : ℕ) → i < 14 → limited m (among k y) (bank i) ≡ tried_after 14 g k (Some (filter_number n)) (bank i)
     begin_below i l = go (bit i x) (ltb (first_number 14 g F1 (bank i)).0 n) refl (exact (bank i) l)
       where
-        out : bit i y ≡ false → limited m (among k y) (bank i) ≡ tried_after 14 g k (Filter (filter_number n)) (bank i)
+        out : bit i y ≡ false → limited m (among k y) (bank i) ≡ tried_after 14 g k (Some (filter_number n)) (bank i)
         out e = let none : among k y (bank i) ≡ 0 = rw e in limited-none m (among k y) (bank i) none ∙ sym none ∙ looked_at i l
 
         go : (a b : Bool) → ltb (first_number 14 g F1 (bank i)).0 n ≡ b → bit i y ≡ (a && b)
-            → limited m (among k y) (bank i) ≡ tried_after 14 g k (Filter (filter_number n)) (bank i)
+            → limited m (among k y) (bank i) ≡ tried_after 14 g k (Some (filter_number n)) (bank i)
         go false b d e = out e
         go true false d e = out e
         go true true d e =
@@ -239,7 +238,7 @@ module _ (g : Filters) (n x : ℕ) (k : FilterClass) (m : ℕ) (rest : Rest g k 
         go true e = let is = searched_is g k F1 (bank i) (sym (rest (bank i) l) ∙ e) in rw (all (bank i) l ∙ e, is.2)
         go false e = rw (all (bank i) l ∙ e)
 
-    pub begin_whole : (i : ℕ) → i < 14 → limited m (among k x) (bank i) ≡ tried_after 14 g k (Filter (filter_number n)) (bank i)
+    pub begin_whole : (i : ℕ) → i < 14 → limited m (among k x) (bank i) ≡ tried_after 14 g k (Some (filter_number n)) (bank i)
     unfolding limited tried_after tried
     begin_whole i l =
         let sums : sum (λ (j : ℕ). among k x (bank j)) i ≡ numbers_below F1 g i = sum_same _ _ i (λ j p. whole-bank j (omega arith)) in

@@ -1,5 +1,5 @@
 -- A search that has passed some banks of a word: no filter of theirs takes the frame, and all of them have been compared. Assumes nothing.
-use Rattle.std.proofs.Common.{◌≡◌, ℕ, zero, suc, ◌+◌, ◌*◌, ◌<◌, ◌≤◌, Bool, true, false, leb, List, length, sym, refl, ap, ◌∙◌, inl, inr, arith, le-leb}
+use Rattle.std.proofs.Common.{◌≡◌, ℕ, zero, suc, ◌+◌, ◌*◌, ◌<◌, ◌≤◌, Bool, true, false, leb, List, length, sym, refl, ap, ◌∙◌, inl, inr, arith, le-leb, Option, Some, None}
 use borrow.Author.Tests.{lt-leb}
 use lib.Count.{count_trailing_zeros}
 use Rattle.base.specs.Base.{pick, bit, sum}
@@ -9,37 +9,36 @@ use Rattle.model.specs.declared.Filters.{Filters}
 use Rattle.model.specs.declared.Bank.{Bank}
 use Rattle.model.specs.declared.FilterClass.{FilterClass}
 use Rattle.model.specs.declared.Fifo.{Fifo}
-use Rattle.model.specs.declared.Hit.{Hit}
-use Rattle.model.specs.declared.Hit.TheVariants.{Filter, Nothing}
 use Rattle.model.proofs.FirstHit.{lower, first-at, width-le, no_hit_lem, hit}
 use Rattle.filter.specs.Compared.{candidate, of_banks, takes_frame}
 use Rattle.filter.specs.Places.{among, limited, first_of}
 use Rattle.filter.proofs.Candidates.{sum_same, sum_skip, sum-le, NoneOf, length-of_banks, of_banks_skip}
 use Rattle.filter.proofs.LeftBanks.{without, From, from_first, none_between, lowest-from, lowest_in, from_next}
+use Rattle.model.specs.declared.FilterNumber.{FilterNumber}
 
 -- ---- the first match
 
-pub nothing_below : (p : ℕ → Hit) (n : ℕ) → ((j : ℕ) → j < n → p j ≡ Nothing) → first p n ≡ Nothing
+pub nothing_below : (p : ℕ → Option FilterNumber) (n : ℕ) → ((j : ℕ) → j < n → p j ≡ None) → first p n ≡ None
 unfolding first
 nothing_below p zero h = refl
 nothing_below p (suc n) h = rw (nothing_below p n (λ j l. h j (omega arith)), h n (omega arith))
 
 module _ (g : Filters) (v : List ℕ) (w : ℕ) (k : FilterClass) (f : Fifo) (t : Bank → ℕ) where
-  none_in : (b : Bank) (j : ℕ) → ((a : ℕ) → a < j → takes_frame v w k (candidate b a) ≡ false) → first (hit_at 14 g v w k f b) j ≡ Nothing
+  none_in : (b : Bank) (j : ℕ) → ((a : ℕ) → a < j → takes_frame v w k (candidate b a) ≡ false) → first (hit_at 14 g v w k f b) j ≡ None
   none_in b j h = nothing_below _ j (λ a l. no_hit_lem 14 g v w k f b a (h a l))
 
-  none_so_far : (n : ℕ) → NoneOf (takes_frame v w k) t n → first (λ (i : ℕ). first (hit_at 14 g v w k f (bank i)) (t (bank i))) n ≡ Nothing
+  none_so_far : (n : ℕ) → NoneOf (takes_frame v w k) t n → first (λ (i : ℕ). first (hit_at 14 g v w k f (bank i)) (t (bank i))) n ≡ None
   none_so_far n h = nothing_below _ n (λ i l. none_in (bank i) (t (bank i)) (λ j m. h i j l m))
 
   -- where no filter takes the frame there is no match
-  pub no_match_lem : NoneOf (takes_frame v w k) t 14 → first_of g v w k f t ≡ Nothing
+  pub no_match_lem : NoneOf (takes_frame v w k) t 14 → first_of g v w k f t ≡ None
   unfolding first_of
   no_match_lem h = none_so_far 14 h
 
   -- the first filter that takes it is the first match
   pub match-at : (i j : ℕ) → i < 14 → j < t (bank i) → NoneOf (takes_frame v w k) t i
       → ((a : ℕ) → a < j → takes_frame v w k (candidate (bank i) a) ≡ false) → takes_frame v w k (candidate (bank i) j) ≡ true
-      → first_of g v w k f t ≡ Filter (number_of 14 g f (bank i) j)
+      → first_of g v w k f t ≡ Some (number_of 14 g f (bank i) j)
   unfolding first_of
   match-at i j l m none before here =
       first-at _ 14 i _ l (none_so_far i none) (first-at _ _ j _ m (none_in (bank i) j before) (hit 14 g v w k f (bank i) j here))

@@ -1,5 +1,5 @@
 -- Document 02's rule of what a search compares. Assumes nothing.
-use Rattle.std.proofs.Common.{◌≡◌, ℕ, zero, suc, ◌+◌, ◌<◌, ◌≤◌, Bool, true, false, not, ◌&&◌, eqb, ltb, List, [], ◌∷◌, length, sym, refl, ap, ◌∙◌, inl, inr, le_refl, le_antisymm, arith, length-append, ltb-false, le-ltb, lt-ltb, eq-eqb, ne_eqb}
+use Rattle.std.proofs.Common.{◌≡◌, ℕ, zero, suc, ◌+◌, ◌<◌, ◌≤◌, Bool, true, false, not, ◌&&◌, eqb, ltb, List, [], ◌∷◌, length, sym, refl, ap, ◌∙◌, inl, inr, le_refl, le_antisymm, arith, length-append, ltb-false, le-ltb, lt-ltb, eq-eqb, ne_eqb, Option, Some, None}
 use mathlib.Core.List.Memᴰ
 use mathlib.Core.List.{Memᴰ}
 use Rattle.base.specs.Base.{pick, bit, sum}
@@ -13,8 +13,6 @@ use Rattle.model.specs.declared.FilterClass.{FilterClass}
 use Rattle.model.specs.declared.FilterClass.TheVariants.{List32, Mask32, List16, Mask16}
 use Rattle.model.specs.declared.Fifo.{Fifo}
 use Rattle.model.specs.declared.Fifo.TheVariants.{F0, F1}
-use Rattle.model.specs.declared.Hit.{Hit}
-use Rattle.model.specs.declared.Hit.TheVariants.{Filter, Nothing}
 use Rattle.model.proofs.Acceptances.{rejected_iff_none-takes}
 use Rattle.model.proofs.FirstHit.{lower}
 use Rattle.model.proofs.LowestNumber.{rank_injective, is_searched, searched_is, tried-searched, numbers_up, lowest, first_hit-active}
@@ -61,20 +59,20 @@ until c (suc n) h = step (until c n (λ i j l m. h i j l (omega arith))) (c n) r
     }
 
 module _ (n : ℕ) (g : Filters) (v : List ℕ) (w : ℕ) (k : FilterClass) where
-  can_win_until : (x : FilterNumber) → Until (λ (i : ℕ). can_win (Filter x) (first_number n g F1 (bank i))) n
+  can_win_until : (x : FilterNumber) → Until (λ (i : ℕ). can_win (Some x) (first_number n g F1 (bank i))) n
   can_win_until x = until _ n (λ i j l m e.
       let start = ltb-false (first_number n g F1 (bank i)).0 x.0 e in
       let up = numbers_below_up g F1 i j l in
       le-ltb (first_number n g F1 (bank j)).0 x.0
       (omega (arith, first_number_lem n g F1 (bank i) (omega arith), first_number_lem n g F1 (bank j) (omega arith))))
 
-  no_more : (h : Hit) → length (up_to_first (takes_frame v w k) (of_banks (tried_after n g k h) n)) ≤ length (up_to_match n g v w k F1)
+  no_more : (h : Option FilterNumber) → length (up_to_first (takes_frame v w k) (of_banks (tried_after n g k h) n)) ≤ length (up_to_match n g v w k F1)
   unfolding tried_after up_to_match
-  no_more Nothing = le_refl _
-  no_more (Filter x) =
+  no_more None = le_refl _
+  no_more (Some x) =
       let u = can_win_until x in
-      let rest = of_banks_skip (tried_after n g k (Filter x)) u.place n u.within (λ j p q. rw (u.fails j p q)) in
-      let same = of_banks-same (tried_after n g k (Filter x)) (tried g k F1) u.place (λ j p. rw (u.holds j p)) in
+      let rest = of_banks_skip (tried_after n g k (Some x)) u.place n u.within (λ j p q. rw (u.fails j p q)) in
+      let same = of_banks-same (tried_after n g k (Some x)) (tried g k F1) u.place (λ j p. rw (u.holds j p)) in
       rw (rest ∙ same) (cut_prefix (takes_frame v w k) (tried g k F1) u.place n u.within)
 
   within-bound : length (compared_in n g v w k) ≤ length (up_to_match n g v w k F0) + length (up_to_match n g v w k F1)
@@ -83,7 +81,7 @@ module _ (n : ℕ) (g : Filters) (v : List ℕ) (w : ℕ) (k : FilterClass) wher
 -- ---- the filters that are looked at
 
 -- after FIFO 0's match no more than before
-fewer_tried : (n : ℕ) (g : Filters) (k : FilterClass) (h : Hit) (b : Bank) → tried_after n g k h b ≤ tried g k F1 b
+fewer_tried : (n : ℕ) (g : Filters) (k : FilterClass) (h : Option FilterNumber) (b : Bank) → tried_after n g k h b ≤ tried g k F1 b
 unfolding tried_after
 fewer_tried n g k h b = go (can_win h (first_number n g F1 b))
   where
@@ -174,7 +172,7 @@ module _ (n : ℕ) (g : Filters) where
 -- ---- the classes up to the winner's
 
 module _ (n : ℕ) (g : Filters) (v : List ℕ) (w : ℕ) where
-  abbrev hits : FilterClass → Fifo → Hit
+  abbrev hits : FilterClass → Fifo → Option FilterNumber
   hits = first_hit n g v w
 
   -- the r best classes are compared whole, and those of l are left
@@ -192,7 +190,7 @@ module _ (n : ℕ) (g : Filters) (v : List ℕ) (w : ℕ) where
   length-next k l =
       length-append (compared_in n g v w k) (pick (is_into (better (hits k F0) (hits k F1))) [] (up_to_class hits (compared_in n g v w) l))
 
-  passes : (k : FilterClass) (l : List FilterClass) → Left (k ∷ l) (rank k) → ((f : Fifo) → hits k f ≡ Nothing) → Left l (suc (rank k))
+  passes : (k : FilterClass) (l : List FilterClass) → Left (k ∷ l) (rank k) → ((f : Fifo) → hits k f ≡ None) → Left l (suc (rank k))
   passes k l s none =
       omega (
         arith,
@@ -209,7 +207,7 @@ module _ (n : ℕ) (g : Filters) (v : List ℕ) (w : ℕ) where
   stops k l s into = omega (arith, s, rw into at (length-next k l))
 
   -- without a match all classes are compared whole
-  all_whole : ((k : FilterClass) (f : Fifo) → hits k f ≡ Nothing) → compared n g v w ≡ active_filters n g
+  all_whole : ((k : FilterClass) (f : Fifo) → hits k f ≡ None) → compared n g v w ≡ active_filters n g
   unfolding up_to_class
   all_whole none =
       let to2 = passes List32 (Mask32 ∷ List16 ∷ Mask16 ∷ []) all_left (none List32) in
@@ -218,7 +216,7 @@ module _ (n : ℕ) (g : Filters) (v : List ℕ) (w : ℕ) where
       omega (arith, passes Mask16 [] to4 (none Mask16), all_best n g)
 
   -- and with one those that are better
-  better-whole : (k : FilterClass) → ((c : FilterClass) → rank c < rank k → (f : Fifo) → hits c f ≡ Nothing)
+  better-whole : (k : FilterClass) → ((c : FilterClass) → rank c < rank k → (f : Fifo) → hits c f ≡ None)
       → is_into (better (hits k F0) (hits k F1)) ≡ true → compared n g v w ≡ better_filters n g k + length (compared_in n g v w k)
   better-whole List32 none into = stops List32 (Mask32 ∷ List16 ∷ Mask16 ∷ []) all_left into
   better-whole Mask32 none into =
@@ -232,24 +230,24 @@ module _ (n : ℕ) (g : Filters) (v : List ℕ) (w : ℕ) where
       let to3 = passes Mask32 (List16 ∷ Mask16 ∷ []) to2 (none Mask32 (omega arith)) in
       let to4 = passes List16 (Mask16 ∷ []) to3 (none List16 (omega arith)) in stops Mask16 [] to4 into
 
-  no_hit_lem : (k : FilterClass) (f : Fifo) → ((x : FilterNumber) → hits k f ≡ Filter x → ⊥) → hits k f ≡ Nothing
+  no_hit_lem : (k : FilterClass) (f : Fifo) → ((x : FilterNumber) → hits k f ≡ Some x → ⊥) → hits k f ≡ None
   no_hit_lem k f out = go (hits k f) refl
     where
-      go : (h : Hit) → hits k f ≡ h → h ≡ Nothing
-      go Nothing e = refl
-      go (Filter x) e = absurd (out x e)
+      go : (h : Option FilterNumber) → hits k f ≡ h → h ≡ None
+      go None e = refl
+      go (Some x) e = absurd (out x e)
 
   -- ---- the winner
 
   module _ (f : Fifo) (x : FilterNumber) (a : Accepted n g v w f x) where
     -- no better class has a match
-    none-better : (c : FilterClass) → rank c < rank a.class → (e : Fifo) → hits c e ≡ Nothing
+    none-better : (c : FilterClass) → rank c < rank a.class → (e : Fifo) → hits c e ≡ None
     none-better c l e = no_hit_lem c e (λ y d.
         let m = first_hit-active n g v w c e y d in
         elim (a.no_later c e m.0 m.1 m.2) [ inl r ↦ omega arith | inr r ↦ omega (arith, r.0) ])
 
     -- the winner is the first match of its class in its FIFO
-    winner_hit : hits a.class f ≡ Filter x
+    winner_hit : hits a.class f ≡ Some x
     winner_hit =
         let low = lowest n g v w a.class f a.bank a.filter a.active in
         let m = first_hit-active n g v w a.class f low.0 low.1 in
@@ -259,18 +257,18 @@ module _ (n : ℕ) (g : Filters) (v : List ℕ) (w : ℕ) where
           | inr (r, inl s) ↦ omega arith
           | inr (r, inr s) ↦ omega (arith, s.0)
         ]) in
-        low.1 ∙ ap (λ (y : ℕ). Filter (filter_number y)) (le_antisymm under over)
+        low.1 ∙ ap (λ (y : ℕ). Some (filter_number y)) (le_antisymm under over)
 
     into : is_into (better (hits a.class F0) (hits a.class F1)) ≡ true
     into = go f winner_hit
       where
-        go : (e : Fifo) → hits a.class e ≡ Filter x → is_into (better (hits a.class F0) (hits a.class F1)) ≡ true
+        go : (e : Fifo) → hits a.class e ≡ Some x → is_into (better (hits a.class F0) (hits a.class F1)) ≡ true
         go F0 d = rw d (into_any x (hits a.class F1))
         go F1 d = rw d (into_either (hits a.class F0))
           where
-            into_either : (h : Hit) → is_into (better h (Filter x)) ≡ true
-            into_either (Filter y) = into_any y (Filter x)
-            into_either Nothing = refl
+            into_either : (h : Option FilterNumber) → is_into (better h (Some x)) ≡ true
+            into_either (Some y) = into_any y (Some x)
+            into_either None = refl
 
     -- a filter of its class and of FIFO e that comes no later is compared
     module _ (e : Fifo) (i j : ℕ) (within : i < n) (looked : j < tried g a.class e (bank i))
@@ -312,9 +310,9 @@ module _ (n : ℕ) (g : Filters) (v : List ℕ) (w : ℕ) where
         below y (inr s) (inl r) = omega (arith, s.0)
         below y (inr s) (inr r) = absurd (omega (arith, r.1, s.1))
 
-        go : (t : Hit) → hits a.class F0 ≡ t → can_win t (first_number n g F1 (bank i)) ≡ true
-        go Nothing q = refl
-        go (Filter y) q =
+        go : (t : Option FilterNumber) → hits a.class F0 ≡ t → can_win t (first_number n g F1 (bank i)) ≡ true
+        go None q = refl
+        go (Some y) q =
             let m = first_hit-active n g v w a.class F0 y q in
             let over : NumberNoLater x f y F0 = rw m.3 (elim (a.no_later a.class F0 m.0 m.1 m.2) [
               | inl r ↦ absurd (omega arith)

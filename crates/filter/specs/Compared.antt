@@ -1,7 +1,7 @@
 -- How many filters a search compares. Document 02, Q-3: "all active ones of classes better than the winner's, the winner, and in its
 -- class at most those of each FIFO up to that FIFO's first match (all if none); without a match, all active ones".
 -- n is the number of banks, v their words R1 and R2 in turn, w a frame's identifier word.
-use Rattle.std.specs.Prelude.{◌≡◌, ℕ, zero, suc, ◌+◌, ◌<◌, ◌≤◌, Bool, true, false, ◌&&◌, List, [], ◌∷◌, ◌++◌, length, nat_lt}
+use Rattle.std.specs.Prelude.{◌≡◌, ℕ, zero, suc, ◌+◌, ◌<◌, ◌≤◌, Bool, true, false, ◌&&◌, List, [], ◌∷◌, ◌++◌, length, nat_lt, Option, Some, None}
 use mathlib.Core.List.{Memᴰ}
 use Rattle.base.specs.Base.{pick, sum}
 use Rattle.model.specs.Banks.{bank, first_word, second_word, is_active, class_of, rank, width, matches, belongs, first_number, number_of}
@@ -14,10 +14,6 @@ use Rattle.model.specs.declared.FilterClass.TheVariants.{List32, Mask32, List16,
 use Rattle.model.specs.declared.FilterNumber.{FilterNumber}
 use Rattle.model.specs.declared.Fifo.{Fifo}
 use Rattle.model.specs.declared.Fifo.TheVariants.{F0, F1}
-use Rattle.model.specs.declared.Hit.{Hit}
-use Rattle.model.specs.declared.Hit.TheVariants.{Filter, Nothing}
-use Rattle.model.specs.declared.Acceptance.{Acceptance}
-use Rattle.model.specs.declared.Acceptance.TheVariants.{Into, Rejected}
 
 -- ---- lists of filters
 
@@ -58,12 +54,12 @@ unfoldable pub up_to_match : ℕ → Filters → List ℕ → ℕ → FilterClas
 up_to_match n g v w k f = up_to_first (takes_frame v w k) (of_banks (tried g k f) n)
 
 -- a bank of FIFO 1 whose first filter has number y can win against FIFO 0's match
-abbrev pub can_win : Hit → FilterNumber → Bool
-can_win (Filter x) y = nat_lt y.0 x.0
-can_win Nothing y = true
+abbrev pub can_win : Option FilterNumber → FilterNumber → Bool
+can_win (Some x) y = nat_lt y.0 x.0
+can_win None y = true
 
 -- how many filters of a bank of FIFO 1 are looked at after FIFO 0's match
-unfoldable pub tried_after : ℕ → Filters → FilterClass → Hit → Bank → ℕ
+unfoldable pub tried_after : ℕ → Filters → FilterClass → Option FilterNumber → Bank → ℕ
 tried_after n g k h b = pick (can_win h (first_number n g F1 b)) (tried g k F1 b) 0
 
 -- FIFO 0 up to its first match; then FIFO 1 up to its own, but for the banks that can't win any more
@@ -73,12 +69,12 @@ compared_in n g v w k =
 
 -- ---- what is compared in all
 
-abbrev pub is_into : Acceptance → Bool
-is_into (Into f x) = true
-is_into Rejected = false
+abbrev pub is_into : Option (Fifo × FilterNumber) → Bool
+is_into (Some (f, x)) = true
+is_into None = false
 
 -- of classes, the preferred first: each up to the first that has a match in either FIFO, and with it; c k is what is compared in class k
-unfoldable pub up_to_class : {K : Type 0} → (K → Fifo → Hit) → (K → List Candidate) → List K → List Candidate
+unfoldable pub up_to_class : {K : Type 0} → (K → Fifo → Option FilterNumber) → (K → List Candidate) → List K → List Candidate
 up_to_class h c [] = []
 up_to_class h c (k ∷ l) = c k ++ pick (is_into (better (h k F0) (h k F1))) [] (up_to_class h c l)
 
@@ -102,7 +98,7 @@ better_filters n g k =
 
 pub record Comparisons (n : ℕ) (g : Filters) (v : List ℕ) (w : ℕ) : Type 0 where
   -- without a match, all active ones
-  pub no_match : acceptance n g v w ≡ Rejected → compared n g v w ≡ active_filters n g
+  pub no_match : acceptance n g v w ≡ None → compared n g v w ≡ active_filters n g
   -- else all active ones of better classes, and those that are compared in the winner's class,
   pub match : (f : Fifo) (x : FilterNumber) (a : Accepted n g v w f x)
       → compared n g v w ≡ better_filters n g a.class + length (compared_in n g v w a.class)

@@ -1,7 +1,7 @@
 -- A place in the search, what stands at it, and what each part of the search finds. Document 01: "Order, filters, storage"; 02: Q-3.
 -- A place is four times the bank's number and the filter's place in the bank; 128 stands for none.
 -- v are the words R1 and R2 of the banks in turn, w is a frame's identifier word.
-use Rattle.std.specs.Prelude.{◌≡◌, ℕ, ◌+◌, ◌*◌, ◌/◌, ◌%◌, ◌^◌, ◌<◌, ◌≤◌, Bool, false, ◌||◌, List, length, ◌==◌, nat_le, nat_lt}
+use Rattle.std.specs.Prelude.{◌≡◌, ℕ, ◌+◌, ◌*◌, ◌/◌, ◌%◌, ◌^◌, ◌<◌, ◌≤◌, Bool, false, ◌||◌, List, length, ◌==◌, nat_le, nat_lt, Option, Some, None}
 use Rattle.base.specs.Base.{pick, bit, sum}
 use Rattle.model.specs.Banks.{bank, filter_number, width, first_number, number_of}
 use Rattle.model.specs.Search.{first, searched, hit_at, first_hit, better, acceptance}
@@ -10,10 +10,6 @@ use Rattle.model.specs.declared.Bank.{Bank}
 use Rattle.model.specs.declared.FilterClass.{FilterClass}
 use Rattle.model.specs.declared.Fifo.{Fifo}
 use Rattle.model.specs.declared.Fifo.TheVariants.{F0, F1}
-use Rattle.model.specs.declared.Hit.{Hit}
-use Rattle.model.specs.declared.Hit.TheVariants.{Filter, Nothing}
-use Rattle.model.specs.declared.Acceptance.{Acceptance}
-use Rattle.model.specs.declared.Acceptance.TheVariants.{Into, Rejected}
 use Rattle.filter.specs.Compared.{of_banks, up_to_first, takes_frame, up_to_match, tried_after, compared_in, compared}
 use Rattle.filter.specs.declared.Place.{Place}
 use Rattle.filter.specs.declared.FirstMatch.{FirstMatch}
@@ -21,6 +17,7 @@ use Rattle.filter.specs.declared.Leading.{Leading}
 use Rattle.filter.specs.declared.BestClass.{BestClass}
 use Rattle.filter.specs.declared.WinningFilter.{WinningFilter}
 use Rattle.filter.specs.declared.SearchResult.{SearchResult}
+use Rattle.model.specs.declared.FilterNumber.{FilterNumber}
 
 -- ---- places
 
@@ -29,8 +26,8 @@ abbrev pub Within : Place → Type 0
 Within p = (p.0 ≤ 128) × (p.0 < 128 → p.0 < 56)
 
 -- the filter at a place, by its number in a FIFO
-unfoldable pub hit_of : Filters → Fifo → Place → Hit
-hit_of g f p = pick (nat_lt p.0 128) (Filter (number_of 14 g f (bank (p.0 / 4)) (p.0 % 4))) Nothing
+unfoldable pub hit_of : Filters → Fifo → Place → Option FilterNumber
+hit_of g f p = pick (nat_lt p.0 128) (Some (number_of 14 g f (bank (p.0 / 4)) (p.0 % 4))) None
 
 -- its number, 255 for none
 unfoldable pub number_at : Filters → Fifo → Place → ℕ
@@ -47,7 +44,7 @@ unfoldable pub limited : ℕ → (Bank → ℕ) → Bank → ℕ
 limited m t b = pick (nat_le (sum (λ (i : ℕ). t (bank i)) b.0) m) (t b) 0
 
 -- of t b filters of each bank b, the first that matches; `first_hit` is this of the filters that are `tried`
-unfoldable pub first_of : Filters → List ℕ → ℕ → FilterClass → Fifo → (Bank → ℕ) → Hit
+unfoldable pub first_of : Filters → List ℕ → ℕ → FilterClass → Fifo → (Bank → ℕ) → Option FilterNumber
 first_of g v w k f t = first (λ (i : ℕ). first (hit_at 14 g v w k f (bank i)) (t (bank i))) 14
 
 unfoldable pub no_match : ℕ → FirstMatch
@@ -98,7 +95,7 @@ pub record Best (g : Filters) (v : List ℕ) (w : ℕ) (b : BestClass) : Type 0 
       → b.leading.compared
       + length (up_to_first (takes_frame v w b.class) (of_banks (tried_after 14 g b.class (hit_of g F0 b.leading.f0)) 14))
       ≡ compared 14 g v w
-  pub accepted1 : 128 ≤ b.leading.f0.0 → better Nothing (hit_of g F1 b.leading.f1) ≡ acceptance 14 g v w
+  pub accepted1 : 128 ≤ b.leading.f0.0 → better None (hit_of g F1 b.leading.f1) ≡ acceptance 14 g v w
   pub compared1 : 128 ≤ b.leading.f0.0 → b.leading.compared ≡ compared 14 g v w
 
 -- ---- FIFO 1 after number n of FIFO 0
@@ -110,18 +107,18 @@ OneLess m n = (m + 1) % 2 ^ 32 ≡ n
 -- in the word y, with no more than m filters before them, are the filters of the class that are looked at
 abbrev pub CanWin : Filters → ℕ → ℕ → ℕ → Type 0
 CanWin g n x y = (k : FilterClass) (m : ℕ) → Rest g k x → m < 2 ^ 32 → OneLess m n
-    → (i : ℕ) → i < 14 → limited m (among k y) (bank i) ≡ tried_after 14 g k (Filter (filter_number n)) (bank i)
+    → (i : ℕ) → i < 14 → limited m (among k y) (bank i) ≡ tried_after 14 g k (Some (filter_number n)) (bank i)
 
 -- ---- the winner
 
 -- a winner: twice the filter's number, and one more in FIFO 1; 510 for none
-unfoldable pub winner_of : Acceptance → WinningFilter
-winner_of (Into F0 x) = record { 0 = 2 * x.0 }
-winner_of (Into F1 x) = record { 0 = 2 * x.0 + 1 }
-winner_of Rejected = record { 0 = 510 }
+unfoldable pub winner_of : Option (Fifo × FilterNumber) → WinningFilter
+winner_of (Some (F0, x)) = record { 0 = 2 * x.0 }
+winner_of (Some (F1, x)) = record { 0 = 2 * x.0 + 1 }
+winner_of None = record { 0 = 510 }
 
-unfoldable pub accepted_by : WinningFilter → Acceptance
-accepted_by x = pick (nat_le 510 x.0) Rejected (pick (x.0 % 2 == 0) (Into F0 (filter_number (x.0 / 2))) (Into F1 (filter_number (x.0 / 2))))
+unfoldable pub accepted_by : WinningFilter → Option (Fifo × FilterNumber)
+accepted_by x = pick (nat_le 510 x.0) None (pick (x.0 % 2 == 0) (Some (F0, (filter_number (x.0 / 2)))) (Some (F1, (filter_number (x.0 / 2)))))
 
 -- the winner of the first matches in FIFO 0 and in FIFO 1, by their numbers, 255 for none
 unfoldable pub lower : ℕ → ℕ → WinningFilter

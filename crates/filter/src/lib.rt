@@ -11,7 +11,7 @@ ghost use Rattle.model.specs.Search as filtering;
 ghost use Rattle.filter.specs.Places as places;
 
 use bits::pick_u32;
-use model::{Acceptance, Bank, Fifo, FilterClass, FilterNumber, Filters};
+use model::{Bank, Fifo, FilterClass, FilterNumber, Filters};
 
 // ---- the words of a bank
 
@@ -554,21 +554,21 @@ pub fn winner(
     s.winner
 }
 
-pub fn accepted_by(x: WinningFilter) -> Acceptance
+pub fn accepted_by(x: WinningFilter) -> Option<(Fifo, FilterNumber)>
     ensures { result ≡ places.accepted_by x }
 {
     if 510 <= x.0 {
-        return Acceptance::Rejected;
+        return None;
     }
     let low = (x.0 / 2) as u8;
     if x.0 % 2 == 0 {
-        return Acceptance::Into(Fifo::F0, FilterNumber(low));
+        return Some((Fifo::F0, FilterNumber(low)));
     }
-    Acceptance::Into(Fifo::F1, FilterNumber(low))
+    Some((Fifo::F1, FilterNumber(low)))
 }
 
 // The FIFO that a frame goes to, and the filter that it passes.
-pub fn acceptance(g: Filters, banks: &[u32; 28], w: u32) -> Acceptance
+pub fn acceptance(g: Filters, banks: &[u32; 28], w: u32) -> Option<(Fifo, FilterNumber)>
     ensures { result ≡ filtering.acceptance 14 g banks.now w }
 {
     accepted_by(winner(g.mode, g.scale, g.assignment, g.activation, banks, w))

@@ -6,7 +6,7 @@ ghost use Rattle.model.specs.Queue as queue;
 ghost use Rattle.model.specs.Mailboxes as mailboxes;
 
 use bits::{bit, one};
-use model::{Mailbox, MailboxBits, MailboxState, Mailboxes, Queue, Transmit};
+use model::{ByMailbox, Mailbox, MailboxState, Queue, Transmit};
 use queue::{aborted_all, holds, is_from, no_requests, requested_if};
 
 pub mod wire; // wire.rt: a start and an outcome
@@ -29,7 +29,7 @@ fn copied(x: MailboxState) -> MailboxState
     }
 }
 
-pub fn at(b: Mailboxes, m: Mailbox) -> MailboxState
+pub fn at(b: ByMailbox<MailboxState>, m: Mailbox) -> MailboxState
     ensures { result ≡ mailboxes.at b m }
 {
     match m {
@@ -39,7 +39,7 @@ pub fn at(b: Mailboxes, m: Mailbox) -> MailboxState
     }
 }
 
-pub fn put(b: Mailboxes, m: Mailbox, x: MailboxState) -> Mailboxes
+pub fn put(b: ByMailbox<MailboxState>, m: Mailbox, x: MailboxState) -> ByMailbox<MailboxState>
     ensures { result ≡ mailboxes.put b m x }
 {
     let mut n = b;
@@ -217,10 +217,10 @@ fn aborts_pending(q: Queue, m: Mailbox, b: bool) -> bool
     b & holds(o, m) & !is_from(s, m)
 }
 
-fn abrq(w: u32) -> MailboxBits
+fn abrq(w: u32) -> ByMailbox<bool>
     ensures { result ≡ mailboxes.abrq w }
 {
-    MailboxBits {
+    ByMailbox {
         m0: bit(7, w),
         m1: bit(15, w),
         m2: bit(23, w),
@@ -245,7 +245,7 @@ pub fn tsr_written(t: Transmit, w: u32) -> Transmit
     let m1 = flags_written(b.m1, 8, w, aborts_pending(q, Mailbox::M1, f.m1));
     let m2 = flags_written(b.m2, 16, w, aborts_pending(q, Mailbox::M2, f.m2));
     Transmit {
-        mailboxes: Mailboxes {
+        mailboxes: ByMailbox {
             m0: m0,
             m1: m1,
             m2: m2,

@@ -1,5 +1,6 @@
 -- Where a frame goes: the FIFO of the active filter that is first by class, number, FIFO among those that take its identifier word;
 -- and it is rejected exactly when there is none. Assumes nothing.
+use Rattle.std.proofs.Common.{Option, Some, None}
 use mathlib.Core.Path.{◌≡◌, refl, ap, ap₂, ◌∙◌}
 use mathlib.Core.List.{List, [], ◌∷◌}
 use mathlib.Core.Logic.{◌↔◌}
@@ -16,10 +17,6 @@ use Rattle.model.specs.declared.FilterClass.{FilterClass}
 use Rattle.model.specs.declared.FilterClass.TheVariants.{List32, Mask32, List16, Mask16}
 use Rattle.model.specs.declared.Fifo.{Fifo}
 use Rattle.model.specs.declared.FilterNumber.{FilterNumber}
-use Rattle.model.specs.declared.Hit.{Hit}
-use Rattle.model.specs.declared.Hit.TheVariants.{Filter, Nothing}
-use Rattle.model.specs.declared.Acceptance.{Acceptance}
-use Rattle.model.specs.declared.Acceptance.TheVariants.{Into, Rejected}
 use Rattle.model.proofs.FirstHit.{nothing_no_filter}
 use Rattle.model.proofs.LowestNumber.{lowest, first_hit-active}
 use Rattle.model.proofs.Preference.{fifo_injective, no_later_than_higher, no_later-both_ways, Place, here, there, best, rejected_iff_no_hits}
@@ -42,7 +39,7 @@ place-rank _ k (there (there (there (there {r = r} x)))) = elim x [ ]
 -- ---- acceptance
 
 module _ (n : ℕ) (g : Filters) (v : List ℕ) (w : ℕ) where
-  accepted-first : (f : Fifo) (x : FilterNumber) → acceptance n g v w ≡ Into f x → Accepted n g v w f x
+  accepted-first : (f : Fifo) (x : FilterNumber) → acceptance n g v w ≡ Some (f, x) → Accepted n g v w f x
   unfolding acceptance
   accepted-first f x a =
       let b = best (first_hit n g v w) (List32 ∷ Mask32 ∷ List16 ∷ Mask16 ∷ []) f x a in
@@ -60,22 +57,22 @@ module _ (n : ℕ) (g : Filters) (v : List ℕ) (w : ℕ) where
             (no_later_than_higher b.rank (rank k) x low.0 (number_of n g e d j) f e no-later low.2);
       }
 
-  rejected-none : acceptance n g v w ≡ Rejected → NoneTakes n g v w
+  rejected-none : acceptance n g v w ≡ None → NoneTakes n g v w
   unfolding acceptance
   rejected-none a k f b j m =
       let low = lowest n g v w k f b j m in
       nothing_no_filter ((rejected_iff_no_hits (first_hit n g v w) _).0 a (rank k) k f (place k)) low.1
 
-  none-rejected : NoneTakes n g v w → acceptance n g v w ≡ Rejected
+  none-rejected : NoneTakes n g v w → acceptance n g v w ≡ None
   unfolding acceptance
   none-rejected q = (rejected_iff_no_hits (first_hit n g v w) _).1 (λ r k f p. go k f (first_hit n g v w k f) refl)
     where
-      go : (k : FilterClass) (f : Fifo) (h : Hit) → first_hit n g v w k f ≡ h → first_hit n g v w k f ≡ Nothing
-      go k f Nothing e = e
-      go k f (Filter x) e = let m = first_hit-active n g v w k f x e in absurd (q k f m.0 m.1 m.2)
+      go : (k : FilterClass) (f : Fifo) (h : Option FilterNumber) → first_hit n g v w k f ≡ h → first_hit n g v w k f ≡ None
+      go k f None e = e
+      go k f (Some x) e = let m = first_hit-active n g v w k f x e in absurd (q k f m.0 m.1 m.2)
 
   -- a frame is rejected exactly when no active filter takes its identifier word
-  pub rejected_iff_none-takes : (acceptance n g v w ≡ Rejected) ↔ NoneTakes n g v w
+  pub rejected_iff_none-takes : (acceptance n g v w ≡ None) ↔ NoneTakes n g v w
   rejected_iff_none-takes = (rejected-none, none-rejected)
 
   -- there is only one such filter number and FIFO
@@ -85,53 +82,53 @@ module _ (n : ℕ) (g : Filters) (v : List ℕ) (w : ℕ) where
       let two = u.no_later t.class f t.bank t.filter t.active in
       no_later-both_ways (rank t.class) (rank u.class) x y f e (rw u.number one) (rw t.number two)
 
-  first-accepted : (f : Fifo) (x : FilterNumber) → Accepted n g v w f x → acceptance n g v w ≡ Into f x
+  first-accepted : (f : Fifo) (x : FilterNumber) → Accepted n g v w f x → acceptance n g v w ≡ Some (f, x)
   first-accepted f x t = go (acceptance n g v w) refl
     where
-      go : (a : Acceptance) → acceptance n g v w ≡ a → acceptance n g v w ≡ Into f x
-      go Rejected d = absurd (rejected-none d t.class f t.bank t.filter t.active)
-      go (Into e y) d = let same = accepted_unique e f y x (accepted-first e y d) t in d ∙ ap₂ Into same.0 same.1
+      go : (a : Option (Fifo × FilterNumber)) → acceptance n g v w ≡ a → acceptance n g v w ≡ Some (f, x)
+      go None d = absurd (rejected-none d t.class f t.bank t.filter t.active)
+      go (Some (e, y)) d = let same = accepted_unique e f y x (accepted-first e y d) t in d ∙ ap₂ (λ (f : Fifo) (x : FilterNumber). Some (f, x)) same.0 same.1
 
   -- a frame goes into FIFO f with the filter number x exactly when they are those of an active filter that takes its identifier
   -- word, and no other that takes it comes before that one: by class, then by number, then by FIFO
-  pub accepted_iff_first : (f : Fifo) (x : FilterNumber) → (acceptance n g v w ≡ Into f x) ↔ Accepted n g v w f x
+  pub accepted_iff_first : (f : Fifo) (x : FilterNumber) → (acceptance n g v w ≡ Some (f, x)) ↔ Accepted n g v w f x
   accepted_iff_first f x = (accepted-first f x, first-accepted f x)
 
   -- an active filter that takes its identifier word is enough for a frame to be accepted
   pub taken_is_accepted : (k : FilterClass) (e : Fifo) (b : Bank) (j : ℕ) → ActiveMatch n g v w k e b j
-      → (f : Fifo) × (x : FilterNumber) × (acceptance n g v w ≡ Into f x) × Accepted n g v w f x
+      → (f : Fifo) × (x : FilterNumber) × (acceptance n g v w ≡ Some (f, x)) × Accepted n g v w f x
   taken_is_accepted k e b j m = go (acceptance n g v w) refl
     where
-      go : (a : Acceptance) → acceptance n g v w ≡ a → (f : Fifo) × (x : FilterNumber) × (acceptance n g v w ≡ Into f x) × Accepted n g v w f x
-      go Rejected d = absurd (rejected-none d k e b j m)
-      go (Into f x) d = (f, x, d, accepted-first f x d)
+      go : (a : Option (Fifo × FilterNumber)) → acceptance n g v w ≡ a → (f : Fifo) × (x : FilterNumber) × (acceptance n g v w ≡ Some (f, x)) × Accepted n g v w f x
+      go None d = absurd (rejected-none d k e b j m)
+      go (Some (f, x)) d = (f, x, d, accepted-first f x d)
 
   -- ---- the same of 01's numbers
 
-  is_filter : (h : Hit) (x : FilterNumber) → (hit_numbers h ≡ x.0 ∷ []) ↔ (h ≡ Filter x)
-  is_filter (Filter y) x = (λ e. let s : y.0 ≡ x.0 = cc in ap (λ (a : ℕ). Filter (filter_number a)) s, λ e. ap hit_numbers e)
-  is_filter Nothing x = (λ e. let z : ◌≡◌ {A = ℕ} 0 1 = cc in absurd (omega arith), λ e. ap hit_numbers e)
+  is_filter : (h : Option FilterNumber) (x : FilterNumber) → (hit_numbers h ≡ x.0 ∷ []) ↔ (h ≡ Some x)
+  is_filter (Some y) x = (λ e. let s : y.0 ≡ x.0 = cc in ap (λ (a : ℕ). Some (filter_number a)) s, λ e. ap hit_numbers e)
+  is_filter None x = (λ e. let z : ◌≡◌ {A = ℕ} 0 1 = cc in absurd (omega arith), λ e. ap hit_numbers e)
 
-  is_nothing : (h : Hit) → (hit_numbers h ≡ []) ↔ (h ≡ Nothing)
-  is_nothing (Filter y) = (λ e. let z : ◌≡◌ {A = ℕ} 0 1 = cc in absurd (omega arith), λ e. ap hit_numbers e)
-  is_nothing Nothing = (λ e. refl, λ e. refl)
+  is_nothing : (h : Option FilterNumber) → (hit_numbers h ≡ []) ↔ (h ≡ None)
+  is_nothing (Some y) = (λ e. let z : ◌≡◌ {A = ℕ} 0 1 = cc in absurd (omega arith), λ e. ap hit_numbers e)
+  is_nothing None = (λ e. refl, λ e. refl)
 
-  is_into_lem : (a : Acceptance) (f : Fifo) (x : FilterNumber) → (acceptance_numbers a ≡ fifo_number f ∷ x.0 ∷ []) ↔ (a ≡ Into f x)
-  is_into_lem (Into e y) f x = (
-    λ q. let s : fifo_number e ≡ fifo_number f = cc in let t : y.0 ≡ x.0 = cc in ap₂ Into (fifo_injective e f s) (ap filter_number t),
+  is_into_lem : (a : Option (Fifo × FilterNumber)) (f : Fifo) (x : FilterNumber) → (acceptance_numbers a ≡ fifo_number f ∷ x.0 ∷ []) ↔ (a ≡ Some (f, x))
+  is_into_lem (Some (e, y)) f x = (
+    λ q. let s : fifo_number e ≡ fifo_number f = cc in let t : y.0 ≡ x.0 = cc in ap₂ (λ (f : Fifo) (x : FilterNumber). Some (f, x)) (fifo_injective e f s) (ap filter_number t),
     λ q. ap acceptance_numbers q,
   )
-  is_into_lem Rejected f x = (λ e. let z : ◌≡◌ {A = ℕ} 0 1 = cc in absurd (omega arith), λ e. ap acceptance_numbers e)
+  is_into_lem None f x = (λ e. let z : ◌≡◌ {A = ℕ} 0 1 = cc in absurd (omega arith), λ e. ap acceptance_numbers e)
 
-  is_rejected : (a : Acceptance) → (acceptance_numbers a ≡ []) ↔ (a ≡ Rejected)
-  is_rejected (Into e y) = (λ q. let z : ◌≡◌ {A = ℕ} 0 1 = cc in absurd (omega arith), λ q. ap acceptance_numbers q)
-  is_rejected Rejected = (λ e. refl, λ e. refl)
+  is_rejected : (a : Option (Fifo × FilterNumber)) → (acceptance_numbers a ≡ []) ↔ (a ≡ None)
+  is_rejected (Some (e, y)) = (λ q. let z : ◌≡◌ {A = ℕ} 0 1 = cc in absurd (omega arith), λ q. ap acceptance_numbers q)
+  is_rejected None = (λ e. refl, λ e. refl)
 
   both : {A B C : Type 0} → A ↔ B → B ↔ C → A ↔ C
   both p q = (λ a. q.0 (p.0 a), λ c. p.1 (q.1 c))
 
   module _ (k : FilterClass) (f : Fifo) where
-    hit-lowest : (x : FilterNumber) → first_hit n g v w k f ≡ Filter x → Lowest n g v w k f x
+    hit-lowest : (x : FilterNumber) → first_hit n g v w k f ≡ Some x → Lowest n g v w k f x
     hit-lowest x e =
         let m = first_hit-active n g v w k f x e in
         record {
@@ -142,23 +139,23 @@ module _ (n : ℕ) (g : Filters) (v : List ℕ) (w : ℕ) where
           least = λ b j t. let low = lowest n g v w k f b j t in let same : low.0 ≡ x = cc in rw (← same) low.2;
         }
 
-    lowest-hit : (x : FilterNumber) → Lowest n g v w k f x → first_hit n g v w k f ≡ Filter x
+    lowest-hit : (x : FilterNumber) → Lowest n g v w k f x → first_hit n g v w k f ≡ Some x
     lowest-hit x t =
         let low = lowest n g v w k f t.bank t.filter t.active in
         let m = first_hit-active n g v w k f low.0 low.1 in
         let over : x.0 ≤ low.0.0 = rw m.3 (t.least m.0 m.1 m.2) in
         let under : low.0.0 ≤ x.0 = rw t.number low.2 in
-        low.1 ∙ ap (λ (a : ℕ). Filter (filter_number a)) (le_antisymm under over)
+        low.1 ∙ ap (λ (a : ℕ). Some (filter_number a)) (le_antisymm under over)
 
-    no_hit-none : first_hit n g v w k f ≡ Nothing → (b : Bank) (j : ℕ) → ActiveMatch n g v w k f b j → ⊥
+    no_hit-none : first_hit n g v w k f ≡ None → (b : Bank) (j : ℕ) → ActiveMatch n g v w k f b j → ⊥
     no_hit-none e b j m = let low = lowest n g v w k f b j m in nothing_no_filter e low.1
 
-    none-no_hit : ((b : Bank) (j : ℕ) → ActiveMatch n g v w k f b j → ⊥) → first_hit n g v w k f ≡ Nothing
+    none-no_hit : ((b : Bank) (j : ℕ) → ActiveMatch n g v w k f b j → ⊥) → first_hit n g v w k f ≡ None
     none-no_hit q = go (first_hit n g v w k f) refl
       where
-        go : (h : Hit) → first_hit n g v w k f ≡ h → first_hit n g v w k f ≡ Nothing
-        go Nothing e = e
-        go (Filter x) e = let m = first_hit-active n g v w k f x e in absurd (q m.0 m.1 m.2)
+        go : (h : Option FilterNumber) → first_hit n g v w k f ≡ h → first_hit n g v w k f ≡ None
+        go None e = e
+        go (Some x) e = let m = first_hit-active n g v w k f x e in absurd (q m.0 m.1 m.2)
 
   pub filtering : Filtering n g v w
   filtering = record {

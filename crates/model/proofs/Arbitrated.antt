@@ -1,4 +1,5 @@
 -- The first in priority goes on the wire; the last in priority is the one that no pending mailbox comes behind.
+use Rattle.std.proofs.Common.{Option, Some, None, ℕ}
 use mathlib.Core.Bool.{Bool, true, false, not, ◌&&◌, ◌||◌, beq, true≢false, false≢true, and-true}
 use mathlib.Core.List.{[], ◌∷◌}
 use mathlib.Core.Path.{◌≡◌, refl, sym, ap, ap₂, subst, ◌∙◌}
@@ -17,11 +18,8 @@ use Rattle.model.specs.Shown.{ti}
 use Rattle.model.specs.Arbitration.{is_pending, earlier, goes_before, precedes, IsFirst, IsLast, StartsFirst}
 use Rattle.model.specs.declared.Mailbox.{Mailbox}
 use Rattle.model.specs.declared.Mailbox.TheVariants.{M0, M1, M2}
-use Rattle.model.specs.declared.Sender.{Sender}
-use Rattle.model.specs.declared.Sender.TheVariants.{Nobody, From}
 use Rattle.model.specs.declared.RequestOrder.{RequestOrder}
 use Rattle.model.specs.declared.RequestOrder.TheVariants.{Empty, One, Two, Three}
-use Rattle.model.specs.declared.Identifiers.{Identifiers}
 use Rattle.model.specs.declared.Core.{Core}
 use Rattle.model.specs.declared.Controller.{Controller}
 use Rattle.model.specs.declared.Step.TheVariants.{Start}
@@ -31,6 +29,7 @@ use Rattle.model.proofs.Follows.{first-carried, from-eq}
 use Rattle.model.proofs.RegisterAccess.{Somebody, start-accepted}
 use Rattle.model.proofs.WireBits.{goes-key, without-txrq, number_small}
 use Rattle.model.proofs.ShownWords.{mcr-shown, ti-shown}
+use Rattle.model.specs.declared.ByMailbox.{ByMailbox}
 
 -- ---- computed tests over fewer mailboxes than `each` takes
 
@@ -54,9 +53,9 @@ same_numbers a b = beq_eq _ _ (each_pair (λ a b. beq (eqb (number a) (number b)
 pub has-order : (o : RequestOrder) (m : Mailbox) → has (order_numbers o) (number m) ≡ holds o m
 has-order o m = beq_eq _ _ (each_of (λ o m. beq (has (order_numbers o) (number m)) (holds o m)) refl o m)
 
-pub has-wire : (v : Sender) (m : Mailbox) → has (sender_numbers v) (number m) ≡ is_from v m
-has-wire Nobody m = refl
-has-wire (From a) m = beq_eq _ _ (each_pair (λ a m. beq (has (sender_numbers (From a)) (number m)) (is_from (From a) m)) refl a m)
+pub has-wire : (v : Option Mailbox) (m : Mailbox) → has (sender_numbers v) (number m) ≡ is_from v m
+has-wire None m = refl
+has-wire (Some a) m = beq_eq _ _ (each_pair (λ a m. beq (has (sender_numbers (Some a)) (number m)) (is_from (Some a) m)) refl a m)
 
 -- ---- the definition's first and last
 
@@ -80,7 +79,7 @@ all_held P (Three a b c) x h p =
     (λ k. or_else (same a x) (same b x) k (λ e. subst P (same-eq a x e) p.0) (λ e. subst P (same-eq b x e) p.1))
     (λ e. subst P (same-eq c x e) p.2)
 
-module _ (i : Identifiers) where
+module _ (i : ByMailbox ℕ) where
   sooner-low : (a b : Mailbox) → (key i (sooner i a b) ≤ key i a) × (key i (sooner i a b) ≤ key i b)
   unfolding sooner before
   sooner-low a b =
@@ -95,7 +94,7 @@ module _ (i : Identifiers) where
       (λ e. let l : key i a < key i b = ltb-true _ _ e in (omega arith, omega arith))
       (λ e. let l : key i b ≤ key i a = ltb-false _ _ e in (omega arith, l))
 
-  first-lowest : (o : RequestOrder) (m : Mailbox) → first_in_wire_order i o ≡ From m → All (λ (x : Mailbox). key i m ≤ key i x) o
+  first-lowest : (o : RequestOrder) (m : Mailbox) → first_in_wire_order i o ≡ Some m → All (λ (x : Mailbox). key i m ≤ key i x) o
   unfolding first_in_wire_order
   first-lowest Empty m e = tt
   first-lowest (One a) m e = rw (from-eq a m e) (omega arith)
@@ -105,7 +104,7 @@ module _ (i : Identifiers) where
       let k = sooner-low (sooner i a b) c in
       rw (← (from-eq (sooner i (sooner i a b) c) m e)) (omega (arith, l.0, k.0), omega (arith, l.1, k.0), k.1)
 
-  last_highest : (o : RequestOrder) (m : Mailbox) → last_in_wire_order i o ≡ From m → All (λ (x : Mailbox). key i x ≤ key i m) o
+  last_highest : (o : RequestOrder) (m : Mailbox) → last_in_wire_order i o ≡ Some m → All (λ (x : Mailbox). key i x ≤ key i m) o
   unfolding last_in_wire_order
   last_highest Empty m e = tt
   last_highest (One a) m e = rw (from-eq a m e) (omega arith)
@@ -148,10 +147,10 @@ newest-held o m h = imp_Is (each_of (λ o m. imp (is_from (newest o) m) (holds o
 pub same_self : (m : Mailbox) → same m m ≡ true
 same_self m = each-mailbox (λ m. same m m) refl m
 
-is_from_lem : (v : Sender) (m : Mailbox) → v ≡ From m → is_from v m ≡ true
+is_from_lem : (v : Option Mailbox) (m : Mailbox) → v ≡ Some m → is_from v m ≡ true
 is_from_lem v m e = rw e (same_self m)
 
-last-held : (p : Bool) (i : Identifiers) (o : RequestOrder) (m : Mailbox) → last p i o ≡ From m → holds o m ≡ true
+last-held : (p : Bool) (i : ByMailbox ℕ) (o : RequestOrder) (m : Mailbox) → last p i o ≡ Some m → holds o m ≡ true
 unfolding last last_in_wire_order
 last-held true i o m e = newest-held o m (is_from_lem (newest o) m e)
 last-held false i Empty m e = absurd (true≢false (ap is_nobody e))
@@ -163,7 +162,7 @@ last-held false i (Three a b c) m e =
     let h = in_order_lem (Three a b c) in
     rw (← (from-eq (later i (later i a b) c) m e)) (later-held i (later i a b) c (Three a b c) (later-held i a b (Three a b c) h.0 h.1) h.2)
 
-pub last_somebody : (p : Bool) (i : Identifiers) (o : RequestOrder) → is_empty o ≡ false → Somebody (last p i o)
+pub last_somebody : (p : Bool) (i : ByMailbox ℕ) (o : RequestOrder) → is_empty o ≡ false → Somebody (last p i o)
 unfolding last last_in_wire_order
 last_somebody b i Empty e = absurd (true≢false e)
 last_somebody true i (One x) e = record { mailbox = x; is = refl }
@@ -180,12 +179,12 @@ oldest-earlier o m x a b c =
     imp_Is (imp_Is (imp_Is (each_two (λ o m x. imp (is_from (oldest o) m) (imp (holds o x) (imp (not (same x m)) (earlier (order_numbers o) (number m) (number x))))) refl o m x) a) b) (not-Is c)
 
 -- the newest of those that are not on the wire
-newest-later : (v : Sender) (o : RequestOrder) (m x : Mailbox) → distinct o ≡ true → is_from (newest (besides v o)) m ≡ true → holds (besides v o) x ≡ true → same x m ≡ false
+newest-later : (v : Option Mailbox) (o : RequestOrder) (m x : Mailbox) → distinct o ≡ true → is_from (newest (besides v o)) m ≡ true → holds (besides v o) x ≡ true → same x m ≡ false
     → earlier (order_numbers o) (number x) (number m) ≡ true
-newest-later Nobody o m x d a b c =
+newest-later None o m x d a b c =
     imp_Is (imp_Is (imp_Is (imp_Is
     (each_two (λ o m x. imp (distinct o) (imp (is_from (newest o) m) (imp (holds o x) (imp (not (same x m)) (earlier (order_numbers o) (number x) (number m)))))) refl o m x) d) a) b) (not-Is c)
-newest-later (From y) o m x d a b c =
+newest-later (Some y) o m x d a b c =
     imp_Is (imp_Is (imp_Is (imp_Is
     (each (λ o m x y. imp (distinct o) (imp (is_from (newest (without o y)) m) (imp (holds (without o y) x) (imp (not (same x m)) (earlier (order_numbers o) (number x) (number m)))))) refl o m x y) d) a) b) (not-Is c)
 
@@ -193,9 +192,9 @@ earlier-one_way : (o : RequestOrder) (a b : Mailbox) → distinct o ≡ true →
 earlier-one_way o a b d h k =
     opposed k (Is-not _ (imp_Is (imp_Is (each_two (λ o a b. imp (distinct o) (imp (earlier (order_numbers o) (number a) (number b)) (not (earlier (order_numbers o) (number b) (number a))))) refl o a b) d) h))
 
-pub besides-held : (v : Sender) (o : RequestOrder) (m : Mailbox) → distinct o ≡ true → holds (besides v o) m ≡ holds o m && not (is_from v m)
-besides-held Nobody o m d = sym (and-true (holds o m))
-besides-held (From y) o m d = beq_eq _ _ (imp_Is (each_two (λ o y m. imp (distinct o) (beq (holds (without o y) m) (holds o m && not (same y m)))) refl o y m) d)
+pub besides-held : (v : Option Mailbox) (o : RequestOrder) (m : Mailbox) → distinct o ≡ true → holds (besides v o) m ≡ holds o m && not (is_from v m)
+besides-held None o m d = sym (and-true (holds o m))
+besides-held (Some y) o m d = beq_eq _ _ (imp_Is (each_two (λ o y m. imp (distinct o) (beq (holds (without o y) m) (holds o m && not (same y m)))) refl o y m) d)
 
 -- ---- priority as the registers show it
 
@@ -203,10 +202,10 @@ module _ (z : Controller) where
   abbrev order : RequestOrder
   order = z.core.transmit.queue.order
 
-  abbrev wire : Sender
+  abbrev wire : Option Mailbox
   wire = z.core.transmit.queue.transmitting
 
-  abbrev words : Identifiers
+  abbrev words : ByMailbox ℕ
   words = identifiers z.core.transmit.mailboxes
 
   abbrev mode : Bool
@@ -233,33 +232,33 @@ module _ (z : Controller) where
 
   -- ---- the first
 
-  first-precedes : (p : Bool) (m x : Mailbox) → first p words order ≡ From m → holds order x ≡ true → same x m ≡ false
+  first-precedes : (p : Bool) (m x : Mailbox) → first p words order ≡ Some m → holds order x ≡ true → same x m ≡ false
       → pick p (earlier (order_numbers order) (number m) (number x)) (before words m x) ≡ true
   unfolding first
   first-precedes true m x e h n = oldest-earlier order m x (is_from_lem (oldest order) m e) h n
   first-precedes false m x e h n =
       strictly words m x (all_held (λ (x : Mailbox). key words m ≤ key words x) order x h (first-lowest words order m e)) (same_comm m x ∙ n)
 
-  pub is_first : (m : Mailbox) → is_nobody wire ≡ true → first mode words order ≡ From m → IsFirst z m
+  pub is_first : (m : Mailbox) → is_nobody wire ≡ true → first mode words order ≡ Some m → IsFirst z m
   is_first m f e = record {
     pending = pending_by m ∙ rw (carried_by (first mode words order) e (first-carried mode words order), nobody m);
     before = λ x h n. precedes_by m x ∙ first-precedes mode m x e (and_l (holds order x) (not (is_from wire x)) (sym (pending_by x) ∙ h)) (sym (same_numbers x m) ∙ n);
   }
     where
-      carried_by : (v : Sender) → v ≡ From m → carried v order ≡ true → holds order m ≡ true
+      carried_by : (v : Option Mailbox) → v ≡ Some m → carried v order ≡ true → holds order m ≡ true
       carried_by v q h = rw q at h
 
       nobody : (x : Mailbox) → is_from wire x ≡ false
       nobody x = go wire f
         where
-          go : (v : Sender) → is_nobody v ≡ true → is_from v x ≡ false
-          go Nobody h = refl
-          go (From a) h = absurd (false≢true h)
+          go : (v : Option Mailbox) → is_nobody v ≡ true → is_from v x ≡ false
+          go None h = refl
+          go (Some a) h = absurd (false≢true h)
 
   -- ---- the last
 
   module _ (d : distinct order ≡ true) where
-    last_preceded : (p : Bool) (m x : Mailbox) → last p words (besides wire order) ≡ From m → holds (besides wire order) x ≡ true → same x m ≡ false
+    last_preceded : (p : Bool) (m x : Mailbox) → last p words (besides wire order) ≡ Some m → holds (besides wire order) x ≡ true → same x m ≡ false
         → pick p (earlier (order_numbers order) (number x) (number m)) (before words x m) ≡ true
     unfolding last
     last_preceded true m x e h n = newest-later wire order m x d (is_from_lem (newest (besides wire order)) m e) h n
@@ -269,7 +268,7 @@ module _ (z : Controller) where
     pub waiting_by : (m : Mailbox) → is_pending z m ≡ holds (besides wire order) m
     waiting_by m = pending_by m ∙ sym (besides-held wire order m d)
 
-    pub is_last : (m : Mailbox) → last_of mode z.core.transmit ≡ From m → IsLast z m
+    pub is_last : (m : Mailbox) → last_of mode z.core.transmit ≡ Some m → IsLast z m
     is_last m e = record {
       pending = waiting_by m ∙ last-held mode words (besides wire order) m e;
       behind = λ x h n. precedes_by x m ∙ last_preceded mode m x e (sym (waiting_by x) ∙ h) (sym (same_numbers x m) ∙ n);

@@ -1,4 +1,5 @@
 -- What an accepted step does to TEC, REC, LEC, the recovery count, and to whether Initialization was entered since bus-off.
+use Rattle.std.proofs.Common.{Option, Some, None}
 use mathlib.Core.Bool.{Bool, true, false, not, ◌&&◌, ◌||◌, true≢false, and_comm, and-true, and-false, or-false}
 use mathlib.Core.Path.{◌≡◌, refl, sym, ap, ◌∙◌}
 use mathlib.Core.List.{List}
@@ -15,8 +16,6 @@ use Rattle.model.specs.Step.{step, answered, core_after, refusal, applied, settl
 use Rattle.model.specs.Shown.{result_code}
 use Rattle.model.specs.Reachable.{InRange}
 use Rattle.model.specs.History.{ErrorCounts, no_errors, Seen, counters_become, write_counted, is_counted, is_last, idle_counted, end_counted, step_counted, initialization_entered, counts_next}
-use Rattle.model.specs.declared.Sender.{Sender}
-use Rattle.model.specs.declared.Sender.TheVariants.{Nobody, From}
 use Rattle.model.specs.declared.Fifo.TheVariants.{F0, F1}
 use Rattle.model.specs.declared.Mode.{Mode}
 use Rattle.model.specs.declared.Mode.TheVariants.{Normal}
@@ -35,6 +34,7 @@ use Rattle.model.proofs.ErrorRules.{outcome_tec, outcome_rec, outcome_lec}
 use Rattle.model.proofs.Mapped.{map}
 use Rattle.model.proofs.RegisterAccess.{elsewhere}
 use Rattle.model.proofs.ReceiveErrors.{receive_error-step}
+use Rattle.model.specs.declared.Mailbox.{Mailbox}
 
 -- the counts as the controller stores them
 abbrev pub counts_of : Core → ErrorCounts
@@ -207,12 +207,12 @@ wire-taken : (z : Controller) (r : ℕ) → eqb (refusal z.core (Outcome r)) 0 �
 unfolding refusal
 wire-taken z r h = Is-not _ (may_end_lem z.core r (end_accepted (ltb 8 r) (may_end z.core r) h))
 
-end_counts : (v : Sender) (c : Core) (b : List ℕ) (r : ℕ) → Not (is_nobody v) → Not (boff c.errors) → c.errors.tec ≤ 263
+end_counts : (v : Option Mailbox) (c : Core) (b : List ℕ) (r : ℕ) → Not (is_nobody v) → Not (boff c.errors) → c.errors.tec ≤ 263
     → Settles c (ended_by v c b r) (end_counted (counts_of c) r)
 unfolding ended_by stored_by errors_changed
-end_counts Nobody c b r n f t = absurd (true≢false n)
-end_counts (From m) c b r n f t =
-    kept-mode c (ended_by (From m) c b r) (end_counted (counts_of c) r) refl
+end_counts None c b r n f t = absurd (true≢false n)
+end_counts (Some m) c b r n f t =
+    kept-mode c (ended_by (Some m) c b r) (end_counted (counts_of c) r) refl
     (changed c (outcome_errors c.errors r) f
     ∙ ap (λ (d : Errors). counters_become (counts_of c) d.tec d.rec d.lec) (outcome_errors_lem c.errors r t))
 
@@ -244,10 +244,10 @@ receive_counts c b x v =
     kept-mode c (applied c b (Receive x)) (step_counted (counts_of c) v (Receive x)) refl
     (rw (not-and (boff c.errors), and-true c.control.reinitialized))
 
-start-counts : (v : Sender) (c : Core) → Settles c (started_by v c) (counts_of c)
+start-counts : (v : Option Mailbox) (c : Core) → Settles c (started_by v c) (counts_of c)
 unfolding started_by
-start-counts Nobody c = kept-mode c c (counts_of c) refl refl
-start-counts (From m) c = kept-mode c (started_by (From m) c) (counts_of c) refl refl
+start-counts None c = kept-mode c c (counts_of c) refl refl
+start-counts (Some m) c = kept-mode c (started_by (Some m) c) (counts_of c) refl refl
 
 -- ---- every step
 

@@ -1,4 +1,5 @@
 -- An accepted step: what it does itself, and then the mode rule, which leaves all but the mode, SLAKI and the recovery.
+use Rattle.std.proofs.Common.{Option, Some, None}
 use mathlib.Core.Bool.{Bool, true, false}
 use mathlib.Core.Path.{◌≡◌, refl}
 use mathlib.Core.List.{List}
@@ -8,12 +9,11 @@ use borrow.Author.Tests.{eq-eqb}
 use Rattle.model.specs.Control as control
 use Rattle.model.specs.Step.{step, answered, core_after, refusal, applied, settled, started_by, ended_by}
 use Rattle.model.specs.Shown.{Done, next_of}
-use Rattle.model.specs.declared.Sender.{Sender}
-use Rattle.model.specs.declared.Sender.TheVariants.{Nobody, From}
 use Rattle.model.specs.declared.Control.{Control}
 use Rattle.model.specs.declared.Core.{Core}
 use Rattle.model.specs.declared.Controller.{Controller}
 use Rattle.model.specs.declared.Step as steps
+use Rattle.model.specs.declared.Mailbox.{Mailbox}
 
 pub accepted : (z : Controller) (s : steps.Step) → Done z s → eqb (refusal z.core s) 0 ≡ true
 unfolding step answered
@@ -49,12 +49,12 @@ pub record Same (d k : Control) : Type 0 where
   pub wkui : d.wkui ≡ k.wkui
   pub slaki : d.slaki ≡ k.slaki
 
-pub start-same : (u : Sender) (c : Core) → Same (started_by u c).control c.control
+pub start-same : (u : Option Mailbox) (c : Core) → Same (started_by u c).control c.control
 unfolding started_by
-start-same Nobody c = record { mcr = refl; timer = refl; mode = refl; wkui = refl; slaki = refl }
-start-same (From m) c = record { mcr = refl; timer = refl; mode = refl; wkui = refl; slaki = refl }
+start-same None c = record { mcr = refl; timer = refl; mode = refl; wkui = refl; slaki = refl }
+start-same (Some m) c = record { mcr = refl; timer = refl; mode = refl; wkui = refl; slaki = refl }
 
-pub end_same : (u : Sender) (c : Core) (v : List ℕ) (r : ℕ) → Same (ended_by u c v r).control c.control
+pub end_same : (u : Option Mailbox) (c : Core) (v : List ℕ) (r : ℕ) → Same (ended_by u c v r).control c.control
 unfolding ended_by control.errors_changed
-end_same Nobody c v r = record { mcr = refl; timer = refl; mode = refl; wkui = refl; slaki = refl }
-end_same (From m) c v r = record { mcr = refl; timer = refl; mode = refl; wkui = refl; slaki = refl }
+end_same None c v r = record { mcr = refl; timer = refl; mode = refl; wkui = refl; slaki = refl }
+end_same (Some m) c v r = record { mcr = refl; timer = refl; mode = refl; wkui = refl; slaki = refl }

@@ -1,4 +1,5 @@
 -- The error flags, ERRI, REC and LEC after each step.
+use Rattle.std.proofs.Common.{Option, Some, None}
 use mathlib.Core.Bool.{Bool, true, false, not, ◌&&◌, ◌||◌, beq, true≢false, and-false, or-false}
 use mathlib.Core.Path.{◌≡◌, refl, sym, ap, ◌∙◌}
 use mathlib.Core.List.{List}
@@ -15,8 +16,6 @@ use Rattle.model.specs.Reachable.{InRange, StepRange}
 use Rattle.model.specs.Shown.{msr, Done, next_of, is_error_result, result_code}
 use Rattle.model.specs.ErrorFlags.{rec_after, lec_after, puts_code, rises, clears_erri, ErrorStatus, ErrorChange, ErrorFlags}
 use Rattle.model.specs.Shown as read
-use Rattle.model.specs.declared.Sender.{Sender}
-use Rattle.model.specs.declared.Sender.TheVariants.{Nobody, From}
 use Rattle.model.specs.declared.Control.{Control}
 use Rattle.model.specs.declared.Errors.{Errors}
 use Rattle.model.specs.declared.Core.{Core}
@@ -31,6 +30,7 @@ use Rattle.model.proofs.ShownWords.{msr-shown, ier-shown, esr-shown, msr-erri, e
 use Rattle.model.proofs.WriteTargets.{control-written, errors-written, flags-written}
 use Rattle.model.proofs.DoneSteps.{accepted, done-core, rule_left}
 use Rattle.model.proofs.ReadFields.{epvf-read, boff-read}
+use Rattle.model.specs.declared.Mailbox.{Mailbox}
 
 -- ---- what ESR shows
 
@@ -56,10 +56,10 @@ error-status z i = record {
 
 -- ---- REC and LEC
 
-pub start-errors : (v : Sender) (c : Core) → (started_by v c).errors ≡ c.errors
+pub start-errors : (v : Option Mailbox) (c : Core) → (started_by v c).errors ≡ c.errors
 unfolding started_by
-start-errors Nobody c = refl
-start-errors (From m) c = refl
+start-errors None c = refl
+start-errors (Some m) c = refl
 
 -- an accepted own end has a frame on the wire
 pub end_sender : (c : Core) (r : ℕ) → eqb (refusal c (Outcome r)) 0 ≡ true → (is_free c ≡ false) × (r ≤ 8)
@@ -68,10 +68,10 @@ end_sender c r h =
     let k = refused_if (ltb 8 r) 5 _ refl h in
     (not-true (is_free c) (may_end_lem c r (refused_unless _ 0 4 refl k.1).0), ltb-false _ _ k.0)
 
-pub end_errors : (v : Sender) (c : Core) (b : List ℕ) (r : ℕ) → is_nobody v ≡ false → (ended_by v c b r).errors ≡ outcome_errors c.errors r
+pub end_errors : (v : Option Mailbox) (c : Core) (b : List ℕ) (r : ℕ) → is_nobody v ≡ false → (ended_by v c b r).errors ≡ outcome_errors c.errors r
 unfolding ended_by
-end_errors Nobody c b r h = absurd (true≢false h)
-end_errors (From m) c b r h = refl
+end_errors None c b r h = absurd (true≢false h)
+end_errors (Some m) c b r h = refl
 
 pub outcome_rec : (e : Errors) (r : ℕ) → (outcome_errors e r).rec ≡ e.rec
 unfolding outcome_errors
@@ -254,16 +254,16 @@ module _ (e d : Errors) (t : d.tec ≤ e.tec) (r : d.rec ≤ e.rec) where
       none : (i a b c d : Bool) → (i || (a && false) || (b && false) || (c && false) || (d && false)) ≡ i
       none i a b c d = simp (and-false, or-false)
 
-start-control : (v : Sender) (c : Core) → (started_by v c).control ≡ c.control
+start-control : (v : Option Mailbox) (c : Core) → (started_by v c).control ≡ c.control
 unfolding started_by
-start-control Nobody c = refl
-start-control (From m) c = refl
+start-control None c = refl
+start-control (Some m) c = refl
 
-end_control : (v : Sender) (c : Core) (b : List ℕ) (r : ℕ) → is_nobody v ≡ false
+end_control : (v : Option Mailbox) (c : Core) (b : List ℕ) (r : ℕ) → is_nobody v ≡ false
     → (ended_by v c b r).control ≡ errors_changed c.control c.errors (outcome_errors c.errors r) (not (eqb r 0) && not (eqb r 7))
 unfolding ended_by
-end_control Nobody c b r h = absurd (true≢false h)
-end_control (From m) c b r h = refl
+end_control None c b r h = absurd (true≢false h)
+end_control (Some m) c b r h = refl
 
 -- an error code of an own end
 pub coded_end : (r : ℕ) → r ≤ 8 → (not (eqb r 0) && not (eqb r 7)) ≡ is_error_result r

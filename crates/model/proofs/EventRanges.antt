@@ -1,4 +1,5 @@
 -- Every bus event that is not refused, and the mode rule after it, keep the core in range.
+use Rattle.std.proofs.Common.{Option, Some, None}
 use mathlib.Core.Bool.{Bool, true, false, not, ◌&&◌}
 use mathlib.Core.List.{List}
 use mathlib.Core.Path.{◌≡◌, refl}
@@ -16,8 +17,6 @@ use Rattle.model.specs.Registers.{bank_count, is_free, with_control, with_errors
 use Rattle.model.specs.Step.{may_start, may_end, may_receive, receive_error_in_range, stored_by, started_by, looped_back, ended_by, settled}
 use Rattle.model.specs.Reachable.{carried, silent, Followed, MailboxRange, FrameRange, CoreRange}
 use Rattle.model.specs.declared.Mailbox.{Mailbox}
-use Rattle.model.specs.declared.Sender.{Sender}
-use Rattle.model.specs.declared.Sender.TheVariants.{Nobody, From}
 use Rattle.model.specs.declared.Fifo.TheVariants.{F0, F1}
 use Rattle.model.specs.declared.Queue.{Queue}
 use Rattle.model.specs.declared.Mode.{Mode}
@@ -27,7 +26,6 @@ use Rattle.model.specs.declared.Errors.{Errors}
 use Rattle.model.specs.declared.Transmit.{Transmit}
 use Rattle.model.specs.declared.Frame.{Frame}
 use Rattle.model.specs.declared.MailboxState.{MailboxState}
-use Rattle.model.specs.declared.Acceptance.{Acceptance}
 use Rattle.model.specs.declared.Core.{Core}
 use Rattle.base.proofs.Choices.{pick_cases, and_l, and_r}
 use Rattle.model.proofs.Follows.{first-carried, may_end_lem}
@@ -36,6 +34,8 @@ use Rattle.model.proofs.ControlRanges.{settled-range, settled-recovery-range, id
 use Rattle.model.proofs.MailboxRanges.{started-range, ended-range}
 use Rattle.model.proofs.FifoRanges.{well_formed_range, well_formed_length, sent-range, stored-range, received-range}
 use Rattle.model.proofs.CoreRanges.{free_wire-range, with_errors-range, with_transmit-range, with_words-range}
+use Rattle.model.specs.declared.FilterNumber.{FilterNumber}
+use Rattle.model.specs.declared.Fifo.{Fifo}
 
 -- ---- the mode rule
 
@@ -132,10 +132,10 @@ module _ (c : Core) (r : CoreRange c) where
 
   -- ---- start
 
-  start_by : (v : Sender) → carried v c.transmit.queue.order ≡ true → Ready c → silent c.control ≡ false → CoreRange (started_by v c)
+  start_by : (v : Option Mailbox) → carried v c.transmit.queue.order ≡ true → Ready c → silent c.control ≡ false → CoreRange (started_by v c)
   unfolding started_by
-  start_by Nobody h y a = r
-  start_by (From m) h y a =
+  start_by None h y a = r
+  start_by (Some m) h y a =
       with_transmit-range c r (started c.transmit m c.control.timer)
       (started-range c.transmit r.transmit m c.control.timer r.control.timer y.free h)
       (record { normal = λ _. y.normal; on = λ _. y.on; heard = λ _. a })
@@ -145,7 +145,7 @@ module _ (c : Core) (r : CoreRange c) where
 
   -- ---- what is stored
 
-  stored_by-range : (a : Acceptance) (x : Frame) (time : ℕ) → FrameRange (stored_frame x (fmi_of a) time) → CoreRange (stored_by c a x time)
+  stored_by-range : (a : Option (Fifo × FilterNumber)) (x : Frame) (time : ℕ) → FrameRange (stored_frame x (fmi_of a) time) → CoreRange (stored_by c a x time)
   unfolding stored_by
   stored_by-range a x time f = record {
     control = r.control;
@@ -160,7 +160,7 @@ module _ (c : Core) (r : CoreRange c) where
 
   -- ---- a frame, a receive error
 
-  pub receive_range : (a : Acceptance) (x : Frame) → (fmi_of a).0 < 4 * bank_count → x.identifier < 2 ^ 32 → x.low < 2 ^ 32 → x.high < 2 ^ 32 → malformed x ≡ false → may_receive c ≡ true
+  pub receive_range : (a : Option (Fifo × FilterNumber)) (x : Frame) → (fmi_of a).0 < 4 * bank_count → x.identifier < 2 ^ 32 → x.low < 2 ^ 32 → x.high < 2 ^ 32 → malformed x ≡ false → may_receive c ≡ true
       → CoreRange (with_errors (stored_by c a x c.control.timer) c.control (received_errors c.errors))
   unfolding stored_by received_errors
   receive_range a x f i l h ok may =
@@ -186,10 +186,10 @@ module _ (c : Core) (r : CoreRange c) where
   looped_back-fmi : (v : List ℕ) (m : Mailbox) (n : ℕ) → ((w : ℕ) → (fmi_of (acceptance bank_count c.filters v w)).0 < 4 * bank_count) → (fmi_of (looped_back c v m n)).0 < 4 * bank_count
   unfolding looped_back
   looped_back-fmi v m n small =
-      pick_cases (λ (a : Acceptance). (fmi_of a).0 < 4 * bank_count) (eqb n 0 && lbkm c.control && not c.filters.finit) _ _ (λ _. small _) (λ _. omega arith)
+      pick_cases (λ (a : Option (Fifo × FilterNumber)). (fmi_of a).0 < 4 * bank_count) (eqb n 0 && lbkm c.control && not c.filters.finit) _ _ (λ _. small _) (λ _. omega arith)
 
   -- the frame that loopback stores, with the mailbox's TIME
-  looped_frame-range : (a : Acceptance) (m : Mailbox) → (fmi_of a).0 < 4 * bank_count
+  looped_frame-range : (a : Option (Fifo × FilterNumber)) (m : Mailbox) → (fmi_of a).0 < 4 * bank_count
       → FrameRange (stored_frame (sent_frame (at c.transmit.mailboxes m)) (fmi_of a) ((at c.transmit.mailboxes m).tdt / 65536))
   unfolding sent_frame
   looped_frame-range a m f =
@@ -198,13 +198,13 @@ module _ (c : Core) (r : CoreRange c) where
       let e : tdt_masked x.tdt ≡ x.tdt = k.tdt in
       stored-range (sent_frame x) (fmi_of a) (x.tdt / 65536) (sent-range x k) k.tdl k.tdh (omega arith) f (omega arith)
 
-  end_by : (s : Sender) (v : List ℕ) (n : ℕ) → c.transmit.queue.transmitting ≡ s → ((w : ℕ) → (fmi_of (acceptance bank_count c.filters v w)).0 < 4 * bank_count)
+  end_by : (s : Option Mailbox) (v : List ℕ) (n : ℕ) → c.transmit.queue.transmitting ≡ s → ((w : ℕ) → (fmi_of (acceptance bank_count c.filters v w)).0 < 4 * bank_count)
       → n ≤ 8 → is_free c ≡ false → CoreRange (ended_by s c v n)
   unfolding ended_by stored_by
-  end_by Nobody v n e small l busy = r
-  end_by (From m) v n e small l busy =
+  end_by None v n e small l busy = r
+  end_by (Some m) v n e small l busy =
       let x : MailboxState = at c.transmit.mailboxes m in
-      let a : Acceptance = looped_back c v m n in
+      let a : (Option (Fifo × FilterNumber)) = looped_back c v m n in
       let s : Core = stored_by c a (sent_frame x) (x.tdt / 65536) in
       let t : Transmit = ended c.transmit m n (nart c.control) in
       let d : Errors = outcome_errors c.errors n in

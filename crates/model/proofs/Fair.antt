@@ -1,4 +1,5 @@
 -- Demand 3: the fairness of request order, for every list of steps.
+use Rattle.std.proofs.Common.{Option, Some, None}
 use mathlib.Core.Bool.{Bool, true, false, not, false≢true}
 use mathlib.Core.Path.{◌≡◌, refl, sym, subst, ap, ◌∙◌}
 use mathlib.Core.List.{List, [], ◌∷◌, ◌++◌}
@@ -15,8 +16,6 @@ use Rattle.model.specs.Requests.{Event, nothing, drops, modes, accepts, aborts, 
 use Rattle.model.specs.Shown.{tme}
 use Rattle.model.specs.Fairness.{is_drop, in_order, Moment, meanwhile, has_ended, under_request_order, other_ends, other_end, is_good, ends_well, every, count, Served, Fairness, requests_from, entries_behind}
 use Rattle.model.specs.declared.Mailbox.{Mailbox}
-use Rattle.model.specs.declared.Sender.{Sender}
-use Rattle.model.specs.declared.Sender.TheVariants.{Nobody, From}
 use Rattle.model.specs.declared.Queue.{Queue}
 use Rattle.model.specs.declared.Controller.{Controller}
 use Rattle.model.specs.declared.Step as steps
@@ -170,9 +169,9 @@ accepted-waits d m g h = record { held = holds-joined d.queue.order g.once m h }
 few-before : (q : Queue) (m : Mailbox) → Sound q → Waits q m → rank q m ≤ 2
 few-before q m g w = go q.transmitting g.wired
   where
-    go : (v : Sender) → Is (carried v q.order) → ahead m q.order + one (not (in_front v m q.order)) ≤ 2
-    go Nobody c = omega (arith, ahead_two q.order m)
-    go (From x) c = rank-two q.order m x g.once w.held c
+    go : (v : Option Mailbox) → Is (carried v q.order) → ahead m q.order + one (not (in_front v m q.order)) ≤ 2
+    go None c = omega (arith, ahead_two q.order m)
+    go (Some x) c = rank-two q.order m x g.once w.held c
 
 served : (m : Mailbox) (b : Requests) (es : List Entry) (k : ℕ) → k ≤ 2 → Shown m b es k → Served m b es
 served m b es k l o = record { few = omega (arith, o.few); ended = go o.ended }

@@ -1,4 +1,5 @@
 -- Stored frames and FIFOs stay in their ranges.
+use Rattle.std.proofs.Common.{Option, Some, None}
 use mathlib.Core.Bool.{Bool, true, false, not, ◌&&◌, ◌||◌}
 use mathlib.Core.Path.{◌≡◌, refl, ap}
 use Prim.Native.Nat.{ℕ, ◌+◌, ◌*◌, ◌-◌, ◌/◌, ◌%◌, ◌^◌, ◌<◌, ◌≤◌}
@@ -17,8 +18,6 @@ use Rattle.model.specs.declared.FifoState.{FifoState}
 use Rattle.model.specs.declared.Frame.{Frame}
 use Rattle.model.specs.declared.FilterNumber.{FilterNumber}
 use Rattle.model.specs.declared.MailboxState.{MailboxState}
-use Rattle.model.specs.declared.Acceptance.{Acceptance}
-use Rattle.model.specs.declared.Acceptance.TheVariants.{Into, Rejected}
 use Rattle.base.proofs.Choices.{pick_cases, or_l, or_r, opposed}
 use Rattle.model.proofs.Masks.{field, lowest}
 
@@ -169,7 +168,7 @@ module _ (q : FifoState) (r : FifoRange q) where
         no_third = λ h. absurd (omega (arith, eqb-false));
       })))
 
-  pub received-range : (f : Fifo) (a : Acceptance) (x : StoredFrame) (rflm : Bool) → FrameRange x → FifoRange (received f a x rflm q)
+  pub received-range : (f : Fifo) (a : Option (Fifo × FilterNumber)) (x : StoredFrame) (rflm : Bool) → FrameRange x → FifoRange (received f a x rflm q)
   unfolding received
   received-range f a x rflm k = pick_cases FifoRange (goes_into f a) _ _ (λ _. pushed-range x rflm k) (λ _. r)
 
@@ -206,6 +205,6 @@ rfr_written-range q w r =
 
 -- ---- the filter number
 
-pub fmi_of-range : (a : Acceptance) → ((f : Fifo) (x : FilterNumber) → a ≡ Into f x → x.0 < 4 * bank_count) → (fmi_of a).0 < 4 * bank_count
-fmi_of-range (Into f x) h = h f x refl
-fmi_of-range Rejected h = omega arith
+pub fmi_of-range : (a : Option (Fifo × FilterNumber)) → ((f : Fifo) (x : FilterNumber) → a ≡ Some (f, x) → x.0 < 4 * bank_count) → (fmi_of a).0 < 4 * bank_count
+fmi_of-range (Some (f, x)) h = h f x refl
+fmi_of-range None h = omega arith

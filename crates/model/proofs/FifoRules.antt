@@ -1,4 +1,5 @@
 -- The FIFOs after each step: what a frame, a release and a reset change, and what the output shows.
+use Rattle.std.proofs.Common.{Option, Some, None}
 use mathlib.Core.Bool.{Bool, true, false, not, ◌&&◌, ◌||◌, or-false}
 use mathlib.Core.Path.{◌≡◌, refl, sym, ap, ◌∙◌}
 use mathlib.Core.List.{List}
@@ -20,16 +21,12 @@ use Rattle.model.specs.Fifos.{other, NoOutput, SameOutput, Kept, has_byte, Shows
 use Rattle.model.specs.Shown as read
 use Rattle.model.specs.declared.Mailbox.{Mailbox}
 use Rattle.model.specs.declared.MailboxState.{MailboxState}
-use Rattle.model.specs.declared.Sender.{Sender}
-use Rattle.model.specs.declared.Sender.TheVariants.{Nobody, From}
 use Rattle.model.specs.declared.Fifo.{Fifo}
 use Rattle.model.specs.declared.Fifo.TheVariants.{F0, F1}
 use Rattle.model.specs.declared.StoredFrame.{StoredFrame}
 use Rattle.model.specs.declared.FifoState.{FifoState}
 use Rattle.model.specs.declared.Frame.{Frame}
 use Rattle.model.specs.declared.FilterNumber.{FilterNumber}
-use Rattle.model.specs.declared.Acceptance.{Acceptance}
-use Rattle.model.specs.declared.Acceptance.TheVariants.{Into, Rejected}
 use Rattle.model.specs.declared.Filters.{Filters}
 use Rattle.model.specs.declared.Core.{Core}
 use Rattle.model.specs.declared.Controller.{Controller}
@@ -211,12 +208,12 @@ stored f z y x n time b i j l h t e o =
 done-fifo : (f : Fifo) (z : Controller) (s : steps.Step) → Done z s → fifo f (next_of z s) ≡ fifo_of f (applied z.core z.banks s)
 done-fifo f z s h = rw (done-core z s h) (settled-fifo f _)
 
-passed : (a : Acceptance) (z y : Controller) (x : Frame) (time : ℕ) (b : Bool) → InRange z → InRange y → x.length < 16 → (fmi_of a).0 < 256 → time < 65536
+passed : (a : Option (Fifo × FilterNumber)) (z y : Controller) (x : Frame) (time : ℕ) (b : Bool) → InRange z → InRange y → x.length < 16 → (fmi_of a).0 < 256 → time < 65536
     → ((f : Fifo) → fifo f y ≡ received f a (stored_frame x (fmi_of a) time) b (fifo f z)) → Passed a z y x time
 unfolding received
-passed (Into F0 n) z y x time b i j l h t e = stored F0 z y x n time b i j l h t (e F0) (e F1)
-passed (Into F1 n) z y x time b i j l h t e = stored F1 z y x n time b i j l h t (e F1) (e F0)
-passed Rejected z y x time b i j l h t e = λ f. kept f z y (rejected f)
+passed (Some (F0, n)) z y x time b i j l h t e = stored F0 z y x n time b i j l h t (e F0) (e F1)
+passed (Some (F1, n)) z y x time b i j l h t e = stored F1 z y x n time b i j l h t (e F1) (e F0)
+passed None z y x time b i j l h t e = λ f. kept f z y (rejected f)
   where
     rejected : (f : Fifo) → fifo f y ≡ fifo f z
     rejected F0 = e F0
@@ -390,20 +387,20 @@ and-and false b c = refl
 looping_shown : (z : Controller) (r : ℕ) (b : Bool) → (eqb r 0 && is_looped z) ≡ b → looping z.core r ≡ b
 looping_shown z r b h = and-and (eqb r 0) (lbkm z.core.control) (not z.core.filters.finit) ∙ (rw (looped_shown z) at h)
 
-end_kept : (f : Fifo) (u : Sender) (c : Core) (v : List ℕ) (r : ℕ) → looping c r ≡ false → fifo_of f (ended_by u c v r) ≡ fifo_of f c
+end_kept : (f : Fifo) (u : Option Mailbox) (c : Core) (v : List ℕ) (r : ℕ) → looping c r ≡ false → fifo_of f (ended_by u c v r) ≡ fifo_of f c
 unfolding ended_by stored_by received looped_back
-end_kept f Nobody c v r h = refl
-end_kept F0 (From m) c v r h = rw h
-end_kept F1 (From m) c v r h = rw h
+end_kept f None c v r h = refl
+end_kept F0 (Some m) c v r h = rw h
+end_kept F1 (Some m) c v r h = rw h
 
 abbrev sent_of : Core → Mailbox → Frame
 sent_of c m = sent_frame (at c.transmit.mailboxes m)
 
-abbrev taken : Core → List ℕ → Mailbox → Acceptance
+abbrev taken : Core → List ℕ → Mailbox → Option (Fifo × FilterNumber)
 taken c v m = acceptance bank_count c.filters v (sent_of c m).identifier
 
 end_received : (f : Fifo) (m : Mailbox) (c : Core) (v : List ℕ) (r : ℕ) → looping c r ≡ true
-    → fifo_of f (ended_by (From m) c v r)
+    → fifo_of f (ended_by (Some m) c v r)
     ≡ received f (taken c v m) (stored_frame (sent_of c m) (fmi_of (taken c v m)) ((at c.transmit.mailboxes m).tdt / 65536)) (rflm c.control) (fifo_of f c)
 unfolding ended_by stored_by looped_back
 end_received F0 m c v r h = rw h
@@ -413,18 +410,18 @@ module _ (z : Controller) (r : ℕ) (i : InRange z) (j : InRange (next_of z (Out
   abbrev c : Core
   c = z.core
 
-  ended-fifo : (f : Fifo) (u : Sender) → c.transmit.queue.transmitting ≡ u → fifo f (next_of z (Outcome r)) ≡ fifo_of f (ended_by u c z.banks r)
+  ended-fifo : (f : Fifo) (u : Option Mailbox) → c.transmit.queue.transmitting ≡ u → fifo f (next_of z (Outcome r)) ≡ fifo_of f (ended_by u c z.banks r)
   unfolding applied
   ended-fifo f u e = done-fifo f z (Outcome r) h ∙ rw e
 
-  loop_passes : (m : Mailbox) → c.transmit.queue.transmitting ≡ From m → looping c r ≡ true
+  loop_passes : (m : Mailbox) → c.transmit.queue.transmitting ≡ Some m → looping c r ≡ true
       → Passed (taken c z.banks m) z (next_of z (Outcome r)) (sent_of c m) (bits 16 16 (tdt m z))
   loop_passes m e k =
       let t = time_of_lem m z i in
       rw t.0
       (passed (taken c z.banks m) z (next_of z (Outcome r)) (sent_of c m) ((at c.transmit.mailboxes m).tdt / 65536) (rflm c.control) i j
       (sent-length m) (fmi-fits c.filters z.banks (sent_of c m).identifier) t.1
-      (λ f. ended-fifo f (From m) e ∙ end_received f m c z.banks r k))
+      (λ f. ended-fifo f (Some m) e ∙ end_received f m c z.banks r k))
     where
       sent-length : (m : Mailbox) → (sent_of c m).length < 16
       sent-length m = sent-code (at c.transmit.mailboxes m)

@@ -1,5 +1,6 @@
 -- The numbers of filters go up from 0 by the widths of their FIFO's banks, and that of an accepted frame is below four times the number of
 -- banks. Assumes nothing.
+use Rattle.std.proofs.Common.{Some}
 use mathlib.Core.Logic.{inl, inr}
 use mathlib.Core.Path.{◌≡◌, refl, sym, ap, ◌∙◌}
 use mathlib.Core.Bool.{Bool, true, false}
@@ -18,7 +19,6 @@ use Rattle.model.specs.declared.Bank.{Bank}
 use Rattle.model.specs.declared.Fifo.{Fifo}
 use Rattle.model.specs.declared.Fifo.TheVariants.{F0, F1}
 use Rattle.model.specs.declared.FilterNumber.{FilterNumber}
-use Rattle.model.specs.declared.Acceptance.TheVariants.{Into}
 use Rattle.model.proofs.FirstHit.{lower, width-le, filter-within}
 use Rattle.model.proofs.LowestNumber.{sum_up}
 use Rattle.model.proofs.Numbering.{first_number-from-counts}
@@ -103,7 +103,7 @@ numbers_below-le f g zero = omega arith
 numbers_below-le f g (suc n) = omega (arith, numbers_below-le f g n, share-le f g (bank n))
 
 -- FMI of a frame that goes into a FIFO is below 4 n with n banks: 56 with 14
-pub fmi_small : (n : ℕ) (g : Filters) (v : List ℕ) (w : ℕ) (f : Fifo) (x : FilterNumber) → acceptance n g v w ≡ Into f x → x.0 < 4 * n
+pub fmi_small : (n : ℕ) (g : Filters) (v : List ℕ) (w : ℕ) (f : Fifo) (x : FilterNumber) → acceptance n g v w ≡ Some (f, x) → x.0 < 4 * n
 unfolding first_number
 fmi_small n g v w f x a =
     let t = (accepted_iff_first n g v w f x).0 a in

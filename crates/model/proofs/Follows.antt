@@ -1,4 +1,5 @@
 -- Each step of the controller does to its requests what the event that the observer sees of it says.
+use Rattle.std.proofs.Common.{Option, Some, None, ℕ}
 use mathlib.Core.Bool.{Bool, true, false, not, ◌&&◌, ◌||◌, true≢false, false≢true}
 use mathlib.Core.List.{List}
 use mathlib.Core.Path.{◌≡◌, refl, sym, ap, ◌∙◌}
@@ -15,16 +16,14 @@ use Rattle.model.specs.Registers.{register_at, reset, core_reset, written, write
 use Rattle.model.specs.Step.{step, answered, core_after, refusal, word_of, applied, settled, stored_by, started_by, ended_by, may_start, may_end}
 use Rattle.model.specs.Reachable.{carried}
 use Rattle.model.specs.Requests.{Event, nothing, drops, modes, accepts, starts, ends, write_event, step_event, start_word, event, entry}
+use Rattle.model.specs.declared.ByMailbox.{ByMailbox}
 use Rattle.model.specs.declared.Mailbox.{Mailbox}
+use Rattle.model.specs.declared.MailboxState.{MailboxState}
 use Rattle.model.specs.declared.Mailbox.TheVariants.{M0, M1, M2}
-use Rattle.model.specs.declared.Sender.{Sender}
-use Rattle.model.specs.declared.Sender.TheVariants.{Nobody, From}
 use Rattle.model.specs.declared.RequestOrder.{RequestOrder}
 use Rattle.model.specs.declared.RequestOrder.TheVariants.{Empty, One, Two, Three}
 use Rattle.model.specs.declared.Fifo.TheVariants.{F0, F1}
-use Rattle.model.specs.declared.Identifiers.{Identifiers}
 use Rattle.model.specs.declared.Queue.{Queue}
-use Rattle.model.specs.declared.Mailboxes as boxes
 use Rattle.model.specs.declared.Control as controls
 use Rattle.model.specs.declared.Core.{Core}
 use Rattle.model.specs.declared.Controller.{Controller}
@@ -35,6 +34,7 @@ use Rattle.model.specs.declared.Step.TheVariants.{Reset, Read, Write, Idle, BitT
 use Rattle.base.proofs.Choices.{Is, Not, and_l, and_r, Is-not, not-Is, pick_cases}
 use Rattle.model.proofs.Orders.{oldest-held, each, each-mailbox}
 use Rattle.model.proofs.Views.{View, view_next, Granted, MayStart, off_view}
+use Rattle.model.specs.declared.ByMailbox.{ByMailbox}
 
 abbrev pub view_of : Core → View
 view_of c = record { queue = c.transmit.queue; nart = nart c.control; txfp = txfp c.control }
@@ -98,7 +98,7 @@ unfolding core_reset master_reset mcr_written
 mcr_does true c w = record { view = refl; granted = tt }
 mcr_does false c w = record { view = remade c.transmit.queue _ _ _ _ (mask_keeps w).0 (mask_keeps w).1; granted = tt }
 
-ti_does : (b : Bool) (c : Core) (m : Mailbox) (x : boxes.Mailboxes) → Not (has_request c m)
+ti_does : (b : Bool) (c : Core) (m : Mailbox) (x : ByMailbox MailboxState) → Not (has_request c m)
     → Does c (with_transmit c (record { mailboxes = x; queue = pick b (requested c.transmit.queue m) c.transmit.queue })) (pick b (accepts m) nothing)
 ti_does true c m x h = record { view = refl; granted = not-Is h }
 ti_does false c m x h = record { view = refl; granted = tt }
@@ -138,7 +138,7 @@ written_does Absent c w h = still c _ refl
 -- ---- start
 
 -- whoever is first by the bits on the wire has a request
-sooner-held : (i : Identifiers) (a b : Mailbox) (o : RequestOrder) → Is (holds o a) → Is (holds o b) → Is (holds o (sooner i a b))
+sooner-held : (i : ByMailbox ℕ) (a b : Mailbox) (o : RequestOrder) → Is (holds o a) → Is (holds o b) → Is (holds o (sooner i a b))
 unfolding sooner
 sooner-held i a b o h k = pick_cases (λ (m : Mailbox). Is (holds o m)) (before i a b) a b (λ _. h) (λ _. k)
 
@@ -151,10 +151,10 @@ held_two a b = each (λ o a b c. holds (Two a b) a && holds (Two a b) b) refl Em
 held-three : (a b c : Mailbox) → Is (holds (Three a b c) a && (holds (Three a b c) b && holds (Three a b c) c))
 held-three a b c = each (λ o a b c. holds (Three a b c) a && (holds (Three a b c) b && holds (Three a b c) c)) refl Empty a b c
 
-pub from-eq : (a m : Mailbox) → From a ≡ From m → a ≡ m
+pub from-eq : (a m : Mailbox) → Some a ≡ Some m → a ≡ m
 from-eq a m e = cc
 
-first_in_wire_order-held : (i : Identifiers) (o : RequestOrder) (m : Mailbox) → first_in_wire_order i o ≡ From m → Is (holds o m)
+first_in_wire_order-held : (i : ByMailbox ℕ) (o : RequestOrder) (m : Mailbox) → first_in_wire_order i o ≡ Some m → Is (holds o m)
 unfolding first_in_wire_order
 first_in_wire_order-held i Empty m e = absurd (true≢false (ap is_nobody e))
 first_in_wire_order-held i (One a) m e = rw (← (from-eq a m e)) (same_refl a)
@@ -169,25 +169,25 @@ first_in_wire_order-held i (Three a b c) m e =
     (sooner-held i a b o (and_l (holds o a) (holds o b && holds o c) (held-three a b c)) (and_l (holds o b) (holds o c) k))
     (and_r (holds o b) (holds o c) k))
 
-first-held : (b : Bool) (i : Identifiers) (o : RequestOrder) (m : Mailbox) → first b i o ≡ From m → Is (holds o m) × (Is b → Is (is_from (oldest o) m))
+first-held : (b : Bool) (i : ByMailbox ℕ) (o : RequestOrder) (m : Mailbox) → first b i o ≡ Some m → Is (holds o m) × (Is b → Is (is_from (oldest o) m))
 unfolding first
 first-held true i o m e =
     let k : Is (is_from (oldest o) m) = rw e (same_refl m) in
     (oldest-held o m k, λ _. k)
 first-held false i o m e = (first_in_wire_order-held i o m e, λ f. absurd (false≢true f))
 
-pub first-carried : (b : Bool) (i : Identifiers) (o : RequestOrder) → Is (carried (first b i o) o)
+pub first-carried : (b : Bool) (i : ByMailbox ℕ) (o : RequestOrder) → Is (carried (first b i o) o)
 first-carried b i o = go (first b i o) refl
   where
-    go : (v : Sender) → first b i o ≡ v → Is (carried v o)
-    go Nobody e = refl
-    go (From m) e = (first-held b i o m e).0
+    go : (v : Option Mailbox) → first b i o ≡ v → Is (carried v o)
+    go None e = refl
+    go (Some m) e = (first-held b i o m e).0
 
 -- where there is a request, there is a first one
-someone : (v : Sender) (m : Mailbox) → v ≡ From m → v ≡ Nobody → ⊥
+someone : (v : Option Mailbox) (m : Mailbox) → v ≡ Some m → v ≡ None → ⊥
 someone v m p q = absurd (true≢false (ap is_nobody (sym q ∙ p)))
 
-first_some : (b : Bool) (i : Identifiers) (o : RequestOrder) → first b i o ≡ Nobody → Is (is_empty o)
+first_some : (b : Bool) (i : ByMailbox ℕ) (o : RequestOrder) → first b i o ≡ None → Is (is_empty o)
 unfolding first first_in_wire_order
 first_some true i Empty e = refl
 first_some true i (One a) e = absurd (someone _ a refl e)
@@ -222,24 +222,24 @@ numbered-number M0 = refl
 numbered-number M1 = refl
 numbered-number M2 = refl
 
-start-one : (m : Mailbox) (c : Core) → MayStart (view_of c) m → Does c (started_by (From m) c) (starts m)
+start-one : (m : Mailbox) (c : Core) → MayStart (view_of c) m → Does c (started_by (Some m) c) (starts m)
 unfolding started_by started
 start-one m c k = record { view = refl; granted = k }
 
-start_does : (v : Sender) (c : Core) → first_of (txfp c.control) c.transmit ≡ v → Startable c → Does c (started_by v c) (starts (numbered (sender_number v)))
-start_does Nobody c e k = absurd (true≢false (sym (first_some (txfp c.control) (identifiers c.transmit.mailboxes) c.transmit.queue.order e) ∙ k.asked))
-start_does (From m) c e k =
+start_does : (v : Option Mailbox) (c : Core) → first_of (txfp c.control) c.transmit ≡ v → Startable c → Does c (started_by v c) (starts (numbered (sender_number v)))
+start_does None c e k = absurd (true≢false (sym (first_some (txfp c.control) (identifiers c.transmit.mailboxes) c.transmit.queue.order e) ∙ k.asked))
+start_does (Some m) c e k =
     let h = first-held (txfp c.control) (identifiers c.transmit.mailboxes) c.transmit.queue.order m e in
     rw (numbered-number m) (start-one m c (record { free = k.free; held = h.0; oldest = h.1 }))
 
 -- ---- own end
 
-end_does : (v : Sender) (c : Core) (b : List ℕ) (r : ℕ) → c.transmit.queue.transmitting ≡ v → Is (not (is_nobody v)) → Does c (ended_by v c b r) (ends (eqb r 0))
+end_does : (v : Option Mailbox) (c : Core) (b : List ℕ) (r : ℕ) → c.transmit.queue.transmitting ≡ v → Is (not (is_nobody v)) → Does c (ended_by v c b r) (ends (eqb r 0))
 unfolding ended_by ended over errors_changed stored_by
-end_does Nobody c b r e k = absurd (false≢true k)
-end_does (From m) c b r e k = record {
-  view = sym (ap (λ (v : Sender). off_view v (view_of c) (eqb r 0)) e);
-  granted = ap (λ (v : Sender). not (is_nobody v)) e;
+end_does None c b r e k = absurd (false≢true k)
+end_does (Some m) c b r e k = record {
+  view = sym (ap (λ (v : Option Mailbox). off_view v (view_of c) (eqb r 0)) e);
+  granted = ap (λ (v : Option Mailbox). not (is_nobody v)) e;
 }
 
 -- ---- every step

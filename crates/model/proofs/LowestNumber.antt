@@ -1,4 +1,5 @@
 -- The first hit of a class in a FIFO is the active filter with the lowest number that takes the word. Assumes nothing.
+use Rattle.std.proofs.Common.{Some, None}
 use mathlib.Core.Path.{◌≡◌, refl, sym, ap, ◌∙◌}
 use mathlib.Core.Bool.{Bool, true, false, ◌&&◌}
 use mathlib.Core.List.{List}
@@ -18,7 +19,6 @@ use Rattle.model.specs.declared.FilterClass.{FilterClass}
 use Rattle.model.specs.declared.FilterClass.TheVariants.{List32, Mask32, List16, Mask16}
 use Rattle.model.specs.declared.Fifo.{Fifo}
 use Rattle.model.specs.declared.FilterNumber.{FilterNumber}
-use Rattle.model.specs.declared.Hit.TheVariants.{Filter, Nothing}
 use Rattle.model.proofs.FirstHit.{FirstOfRow, nowhere, at, first_of-row, Ascending, first-lowest, nothing_no_filter, filter-within, hit}
 
 -- ---- the banks that are searched
@@ -87,25 +87,25 @@ module _ (n : ℕ) (g : Filters) (v : List ℕ) (w : ℕ) (k : FilterClass) (f :
       rw (lt-ltb a.0 n (omega arith), lt-ltb b.0 n l)
       (omega (arith, sum_up (λ (i : ℕ). share f g (bank i)) a.0 b.0 h, tried-share g k f a))
 
-  hit_is : (b : Bank) (j : ℕ) (x : FilterNumber) → hit_at n g v w k f b j ≡ Filter x
+  hit_is : (b : Bank) (j : ℕ) (x : FilterNumber) → hit_at n g v w k f b j ≡ Some x
       → (matches k (first_word v b) (second_word v b) j w ≡ true) × (x ≡ number_of n g f b j)
   unfolding hit_at
   hit_is b j x = go (matches k (first_word v b) (second_word v b) j w)
     where
-      go : (t : Bool) → pick t (Filter (number_of n g f b j)) Nothing ≡ Filter x → (t ≡ true) × (x ≡ number_of n g f b j)
+      go : (t : Bool) → pick t (Some (number_of n g f b j)) None ≡ Some x → (t ≡ true) × (x ≡ number_of n g f b j)
       go true e = (refl, cc)
       go false e = nothing_no_filter refl e
 
-  bank-hit : (b : Bank) (x : FilterNumber) → hit_in n g v w k f b ≡ Filter x
-      → (j : ℕ) × (j < tried g k f b) × (hit_at n g v w k f b j ≡ Filter x)
+  bank-hit : (b : Bank) (x : FilterNumber) → hit_in n g v w k f b ≡ Some x
+      → (j : ℕ) × (j < tried g k f b) × (hit_at n g v w k f b j ≡ Some x)
   unfolding hit_in
   bank-hit b x e = go (first_of-row (hit_at n g v w k f b) (tried g k f b))
     where
-      go : FirstOfRow (hit_at n g v w k f b) (tried g k f b) → (j : ℕ) × (j < tried g k f b) × (hit_at n g v w k f b j ≡ Filter x)
+      go : FirstOfRow (hit_at n g v w k f b) (tried g k f b) → (j : ℕ) × (j < tried g k f b) × (hit_at n g v w k f b j ≡ Some x)
       go (nowhere s q) = nothing_no_filter s e
       go (at j y l d s q) = (j, l, cc)
 
-  pub number-in_bank : (b : Bank) (x : FilterNumber) → hit_in n g v w k f b ≡ Filter x
+  pub number-in_bank : (b : Bank) (x : FilterNumber) → hit_in n g v w k f b ≡ Some x
       → ((first_number n g f b).0 ≤ x.0) × (x.0 < (first_number n g f b).0 + tried g k f b)
   number-in_bank b x e =
       let h = bank-hit b x e in let is = hit_is b h.0 x h.2 in rw is.1 (omega arith, omega arith)
@@ -118,7 +118,7 @@ module _ (n : ℕ) (g : Filters) (v : List ℕ) (w : ℕ) (k : FilterClass) (f :
 
   -- for every active filter of class k in FIFO f that takes the word, the first hit is a filter with a number no higher
   pub lowest : (b : Bank) (j : ℕ) → ActiveMatch n g v w k f b j
-      → (x : FilterNumber) × (first_hit n g v w k f ≡ Filter x) × (x.0 ≤ (number_of n g f b j).0)
+      → (x : FilterNumber) × (first_hit n g v w k f ≡ Some x) × (x.0 ≤ (number_of n g f b j).0)
   unfolding first_hit hit_in tried
   lowest b j m =
       let looked : j < tried g k f b = rw (is_searched g k f b m.active m.assigned m.class) (filter-within k _ _ j w m.takes) in
@@ -127,7 +127,7 @@ module _ (n : ℕ) (g : Filters) (v : List ℕ) (w : ℕ) (k : FilterClass) (f :
       (outer.0, outer.1, omega (arith, outer.2, inner.2))
 
   -- and the first hit is the number of an active filter of class k in FIFO f that takes the word
-  pub first_hit-active : (x : FilterNumber) → first_hit n g v w k f ≡ Filter x
+  pub first_hit-active : (x : FilterNumber) → first_hit n g v w k f ≡ Some x
       → (b : Bank) × (j : ℕ) × ActiveMatch n g v w k f b j × (x ≡ number_of n g f b j)
   unfolding first_hit
   first_hit-active x e = go (first_of-row (λ (i : ℕ). hit_in n g v w k f (bank i)) n)

@@ -1,4 +1,5 @@
 -- Mailbox words, and mailboxes with their requests, stay in their ranges.
+use Rattle.std.proofs.Common.{Some}
 use mathlib.Core.Bool.{Bool, true, false, not, ◌&&◌, ◌||◌, false≢true, and-false, or-true}
 use mathlib.Core.Path.{◌≡◌, refl, ◌∙◌}
 use Prim.Native.Nat.{ℕ, ◌+◌, ◌*◌, ◌/◌, ◌%◌, ◌^◌, ◌<◌, ◌≤◌}
@@ -11,16 +12,15 @@ use Rattle.model.specs.Mailboxes.{at, put, with_words, with_flags, empty_mailbox
 use Rattle.model.specs.Reachable.{QueueRange, MailboxRange, TransmitRange}
 use Rattle.model.specs.declared.Mailbox.{Mailbox}
 use Rattle.model.specs.declared.Mailbox.TheVariants.{M0, M1, M2}
-use Rattle.model.specs.declared.Sender.TheVariants.{From}
 use Rattle.model.specs.declared.RequestOrder.{RequestOrder}
 use Rattle.model.specs.declared.Queue.{Queue}
 use Rattle.model.specs.declared.MailboxState.{MailboxState}
-use Rattle.model.specs.declared.Mailboxes.{Mailboxes}
 use Rattle.model.specs.declared.Transmit.{Transmit}
 use Rattle.base.proofs.Choices.{pick_cases, and_l, and_r, or_r, opposed, Is-not}
 use Rattle.model.proofs.Orders.{gone_without, held-before-without, held-before-joined}
 use Rattle.model.proofs.Masks.{tdt_masked_lem, tdt-timed}
 use Rattle.model.proofs.QueueRanges.{aborted-range, aborted-wire, held-before-aborted, kept-not-aborted, no_requests-range, aborted_all-range, requested-range, sending-range, off_wire-range}
+use Rattle.model.specs.declared.ByMailbox.{ByMailbox}
 
 -- ---- flags
 
@@ -113,7 +113,7 @@ ti_written-range x w r l =
 -- ---- one of three
 
 -- what holds of the others, and of the new one, holds of all three
-put_all : (P : Mailbox → MailboxState → Type 0) (b : Mailboxes) (m : Mailbox) (y : MailboxState)
+put_all : (P : Mailbox → MailboxState → Type 0) (b : ByMailbox MailboxState) (m : Mailbox) (y : MailboxState)
     → ((x : Mailbox) → same m x ≡ false → P x (at b x)) → P m y → (x : Mailbox) → P x (at (put b m y) x)
 put_all P b M0 y r p M0 = p
 put_all P b M0 y r p M1 = r M1 refl
@@ -247,7 +247,7 @@ module _ (t : Transmit) (r : TransmitRange t) where
   ended-pending m n false =
       put_all (Pending t.queue.order) t.mailboxes m _ (λ x _. r.pending x) (λ h. rw (r.pending m h))
 
-  pub ended-range : (m : Mailbox) (n : ℕ) (nart : Bool) → t.queue.transmitting ≡ From m → TransmitRange (ended t m n nart)
+  pub ended-range : (m : Mailbox) (n : ℕ) (nart : Bool) → t.queue.transmitting ≡ Some m → TransmitRange (ended t m n nart)
   unfolding ended over
   ended-range m n nart e = record {
     queue = off_wire-range t.queue m r.queue e _ (or_r (eqb n 0 || nart) (flag t.queue.aborts m));

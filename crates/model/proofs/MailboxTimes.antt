@@ -1,4 +1,5 @@
 -- The TIME of a mailbox is what was written to TDT, and from a start on the timer.
+use Rattle.std.proofs.Common.{Option, Some, None}
 use mathlib.Core.Bool.{Bool, true, false, true≢false}
 use mathlib.Core.Path.{◌≡◌, refl, ap, ◌∙◌}
 use mathlib.Core.List.{List, [], ◌∷◌}
@@ -18,10 +19,7 @@ use Rattle.model.specs.History.{time_after, time_next, time_from, time_at}
 use Rattle.model.specs.Shown.{shown}
 use Rattle.model.specs.declared.Mailbox.{Mailbox}
 use Rattle.model.specs.declared.Mailbox.TheVariants.{M0, M1, M2}
-use Rattle.model.specs.declared.Sender.{Sender}
-use Rattle.model.specs.declared.Sender.TheVariants.{Nobody, From}
 use Rattle.model.specs.declared.MailboxState.{MailboxState}
-use Rattle.model.specs.declared.Mailboxes.{Mailboxes}
 use Rattle.model.specs.declared.Core.{Core}
 use Rattle.model.specs.declared.Controller.{Controller}
 use Rattle.model.specs.declared.Register.TheVariants.{Tdt}
@@ -35,6 +33,7 @@ use Rattle.model.proofs.ShownWords.{tdt-shown}
 use Rattle.model.proofs.Reached.{reset-in_range, step-in_range}
 use Rattle.model.proofs.Timing.{step-timer}
 use Rattle.model.proofs.WordsKept.{put-field, tdt-kept}
+use Rattle.model.specs.declared.ByMailbox.{ByMailbox}
 
 abbrev tdt_of : Mailbox → Core → ℕ
 tdt_of m c = (at c.transmit.mailboxes m).tdt
@@ -44,7 +43,7 @@ time_of m c = bits 16 16 (tdt_of m c)
 
 -- ---- one of three
 
-put_here : (m n : Mailbox) (b : Mailboxes) (x : MailboxState) → (at (put b n x) m).tdt ≡ pick (eqb (number n) (number m)) x.tdt (at b m).tdt
+put_here : (m n : Mailbox) (b : ByMailbox MailboxState) (x : MailboxState) → (at (put b n x) m).tdt ≡ pick (eqb (number n) (number m)) x.tdt (at b m).tdt
 put_here M0 M0 b x = refl
 put_here M0 M1 b x = refl
 put_here M0 M2 b x = refl
@@ -79,18 +78,18 @@ started-time : (b : Bool) (x t y : ℕ) → t < 65536 → bits 16 16 (pick b (y 
 started-time true x t y h = omega arith
 started-time false x t y h = refl
 
-start-time : (v : Sender) (m : Mailbox) (c : Core) → Not (is_nobody v) → c.control.timer < 65536
+start-time : (v : Option Mailbox) (m : Mailbox) (c : Core) → Not (is_nobody v) → c.control.timer < 65536
     → time_of m (started_by v c) ≡ pick (eqb (sender_number v) (number m)) c.control.timer (time_of m c)
 unfolding started_by started
-start-time Nobody m c n h = absurd (true≢false n)
-start-time (From x) m c n h =
+start-time None m c n h = absurd (true≢false n)
+start-time (Some x) m c n h =
     ap (λ (w : ℕ). bits 16 16 w) (put_here m x c.transmit.mailboxes _)
     ∙ started-time (eqb (number x) (number m)) (tdt_of m c) c.control.timer (tdt_of x c) h
 
-end_time : (v : Sender) (m : Mailbox) (c : Core) (b : List ℕ) (r : ℕ) → tdt_of m (ended_by v c b r) ≡ tdt_of m c
+end_time : (v : Option Mailbox) (m : Mailbox) (c : Core) (b : List ℕ) (r : ℕ) → tdt_of m (ended_by v c b r) ≡ tdt_of m c
 unfolding ended_by ended outcome_flags
-end_time Nobody m c b r = refl
-end_time (From x) m c b r = put-field (λ x. x.tdt) c.transmit.mailboxes x _ m (λ _. refl)
+end_time None m c b r = refl
+end_time (Some x) m c b r = put-field (λ x. x.tdt) c.transmit.mailboxes x _ m (λ _. refl)
 
 -- ---- every step
 

@@ -1,4 +1,5 @@
 -- The mode, the flags of MSR and the timer after each step.
+use Rattle.std.proofs.Common.{Option, Some, None}
 use mathlib.Core.Bool.{Bool, true, false, not, ◌&&◌, ◌||◌, true≢false, false≢true, and-false, or-false}
 use mathlib.Core.Path.{◌≡◌, refl, sym, ap, ◌∙◌}
 use mathlib.Core.List.{List}
@@ -22,8 +23,6 @@ use Rattle.model.specs.declared.Mode.TheVariants.{Sleep, Initialization, Normal}
 use Rattle.model.specs.declared.RequestOrder.{RequestOrder}
 use Rattle.model.specs.declared.RequestOrder.TheVariants.{Empty, One, Two, Three}
 use Rattle.model.specs.declared.Queue.{Queue}
-use Rattle.model.specs.declared.Sender.{Sender}
-use Rattle.model.specs.declared.Sender.TheVariants.{Nobody, From}
 use Rattle.model.specs.declared.Control.{Control}
 use Rattle.model.specs.declared.Core.{Core}
 use Rattle.model.specs.declared.Controller.{Controller}
@@ -36,6 +35,7 @@ use Rattle.model.proofs.ShownWords.{mcr-shown, msr-shown, ier-shown, msr-mode, m
 use Rattle.model.proofs.WriteTargets.{control_written, control-written, wire-written, flags-written}
 use Rattle.model.proofs.DoneSteps.{accepted, done-core, rule_left, start-same, end_same}
 use Rattle.model.proofs.ReadFields.{slak-read, txm-read}
+use Rattle.model.specs.declared.Mailbox.{Mailbox}
 
 -- ---- what MSR shows
 
@@ -280,15 +280,15 @@ module _ (c : Core) (v : List ℕ) where
   write_wire o w true e = rw (wire-written o c w, e)
   write_wire o w false e = rw (wire-written o c w, e)
 
-  start-wire : (u : Sender) → is_nobody u ≡ false → not (is_free (started_by u c)) ≡ true
+  start-wire : (u : Option Mailbox) → is_nobody u ≡ false → not (is_free (started_by u c)) ≡ true
   unfolding started_by started
-  start-wire Nobody h = absurd (true≢false h)
-  start-wire (From m) h = refl
+  start-wire None h = absurd (true≢false h)
+  start-wire (Some m) h = refl
 
-  end_wire : (u : Sender) (r : ℕ) → c.transmit.queue.transmitting ≡ u → not (is_free (ended_by u c v r)) ≡ false
+  end_wire : (u : Option Mailbox) (r : ℕ) → c.transmit.queue.transmitting ≡ u → not (is_free (ended_by u c v r)) ≡ false
   unfolding ended_by ended off_wire
-  end_wire Nobody r e = ap (λ (x : Sender). not (is_nobody x)) e
-  end_wire (From m) r e =
+  end_wire None r e = ap (λ (x : Option Mailbox). not (is_nobody x)) e
+  end_wire (Some m) r e =
       pick_cases (λ (q : Queue). not (is_nobody q.transmitting) ≡ false) (over c.transmit.queue m r (nart k)) _ _ (λ _. refl) (λ _. refl)
 
   applied-wire : (s : steps.Step) → eqb (refusal c s) 0 ≡ true → not (is_free (applied c v s)) ≡ (is_start s || (not (is_outcome s || resets s) && not (is_free c)))

@@ -1,4 +1,5 @@
 -- Facts about the orders of three mailboxes, each by one computed test over all of them.
+use Rattle.std.proofs.Common.{Bool}
 use mathlib.Core.Bool.{Bool, true, false, not, ◌&&◌, beq, false≢true}
 use mathlib.Core.Path.{◌≡◌, refl}
 use Prim.Native.Nat.{ℕ, suc, ◌+◌, ◌≤◌}
@@ -11,8 +12,8 @@ use Rattle.model.specs.declared.Mailbox.{Mailbox}
 use Rattle.model.specs.declared.Mailbox.TheVariants.{M0, M1, M2}
 use Rattle.model.specs.declared.RequestOrder.{RequestOrder}
 use Rattle.model.specs.declared.RequestOrder.TheVariants.{Empty, One, Two, Three}
-use Rattle.model.specs.declared.MailboxBits.{MailboxBits}
 use Rattle.base.proofs.Choices.{Is, Not, imp, imp_Is, not-Is, and_l, and_r, beq_eq}
+use Rattle.model.specs.declared.ByMailbox.{ByMailbox}
 
 -- a test that holds at each mailbox, at each order
 abbrev pub mailboxes : (Mailbox → Bool) → Bool
@@ -62,13 +63,13 @@ ahead m (One a) = 0
 ahead m (Two a b) = pick (same a m) 0 1
 ahead m (Three a b c) = pick (same a m) 0 (pick (same b m) 1 2)
 
-abbrev pub out_of : RequestOrder → MailboxBits
+abbrev pub out_of : RequestOrder → ByMailbox Bool
 out_of o = record { m0 = holds o M0; m1 = holds o M1; m2 = holds o M2 }
 
-abbrev pub same_flags : MailboxBits → MailboxBits → Bool
+abbrev pub same_flags : ByMailbox Bool → ByMailbox Bool → Bool
 same_flags f g = beq f.m0 g.m0 && beq f.m1 g.m1 && beq f.m2 g.m2
 
-pub flags-eq : (f g : MailboxBits) → Is (same_flags f g) → f ≡ g
+pub flags-eq : (f g : ByMailbox Bool) → Is (same_flags f g) → f ≡ g
 flags-eq f g h =
     let a : Bool = beq f.m0 g.m0 in
     let b : Bool = beq f.m1 g.m1 in

@@ -1,4 +1,5 @@
 -- Requests and mailboxes stay in their ranges.
+use Rattle.std.proofs.Common.{Option, Some, None, Bool}
 use mathlib.Core.Bool.{Bool, true, false, not, ◌&&◌, false≢true}
 use mathlib.Core.Path.{◌≡◌, refl, sym, ap, ◌∙◌}
 use Rattle.base.specs.Base.{pick}
@@ -7,18 +8,16 @@ use Rattle.model.specs.Mailboxes.{aborts_pending}
 use Rattle.model.specs.Reachable.{distinct, QueueRange}
 use Rattle.model.specs.declared.Mailbox.{Mailbox}
 use Rattle.model.specs.declared.Mailbox.TheVariants.{M0, M1, M2}
-use Rattle.model.specs.declared.Sender.{Sender}
-use Rattle.model.specs.declared.Sender.TheVariants.{Nobody, From}
-use Rattle.model.specs.declared.MailboxBits.{MailboxBits}
 use Rattle.model.specs.declared.Queue.{Queue}
 use Rattle.base.proofs.Choices.{pick_cases, opposed, Is-not}
 use Rattle.model.proofs.Orders.{distinct_without, distinct-joined, gone_without, held-before-without}
 use Rattle.model.proofs.Views.{carried-without, carried-joined}
+use Rattle.model.specs.declared.ByMailbox.{ByMailbox}
 
 -- ---- a bit of three set or cleared
 
 -- what is set was set before
-cleared-bit : (f : MailboxBits) (m x : Mailbox) → flag (flagged f m false) x ≡ true → flag f x ≡ true
+cleared-bit : (f : ByMailbox Bool) (m x : Mailbox) → flag (flagged f m false) x ≡ true → flag f x ≡ true
 cleared-bit f M0 M0 h = absurd (false≢true h)
 cleared-bit f M0 M1 h = h
 cleared-bit f M0 M2 h = h
@@ -30,7 +29,7 @@ cleared-bit f M2 M1 h = h
 cleared-bit f M2 M2 h = absurd (false≢true h)
 
 -- what is set was set before, or is m's
-set-bit : (P : Mailbox → Type 0) (f : MailboxBits) (m x : Mailbox) → P m → (flag f x ≡ true → P x) → flag (flagged f m true) x ≡ true → P x
+set-bit : (P : Mailbox → Type 0) (f : ByMailbox Bool) (m x : Mailbox) → P m → (flag f x ≡ true → P x) → flag (flagged f m true) x ≡ true → P x
 set-bit P f M0 M0 p g h = p
 set-bit P f M0 M1 p g h = g h
 set-bit P f M0 M2 p g h = g h
@@ -42,7 +41,7 @@ set-bit P f M2 M1 p g h = g h
 set-bit P f M2 M2 p g h = p
 
 -- where only m's can be set and m's is not, none is
-none-set : (f : MailboxBits) (m x : Mailbox) → (flag f x ≡ true → same m x ≡ true) → flag f m ≡ false → flag f x ≡ true → false ≡ true
+none-set : (f : ByMailbox Bool) (m x : Mailbox) → (flag f x ≡ true → same m x ≡ true) → flag f m ≡ false → flag f x ≡ true → false ≡ true
 none-set f M0 M0 g n h = sym n ∙ h
 none-set f M0 M1 g n h = g h
 none-set f M0 M2 g n h = g h
@@ -53,7 +52,7 @@ none-set f M2 M0 g n h = g h
 none-set f M2 M1 g n h = g h
 none-set f M2 M2 g n h = sym n ∙ h
 
-cleared-off : (f : MailboxBits) (m : Mailbox) → flag (flagged f m false) m ≡ false
+cleared-off : (f : ByMailbox Bool) (m : Mailbox) → flag (flagged f m false) m ≡ false
 cleared-off f M0 = refl
 cleared-off f M1 = refl
 cleared-off f M2 = refl
@@ -61,14 +60,14 @@ cleared-off f M2 = refl
 -- ---- requests
 
 -- with a free wire no abort is remembered
-free_none : (t : Sender) (m : Mailbox) → is_nobody t ≡ true → is_from t m ≡ false
-free_none Nobody m h = refl
-free_none (From x) m h = absurd (false≢true h)
+free_none : (t : Option Mailbox) (m : Mailbox) → is_nobody t ≡ true → is_from t m ≡ false
+free_none None m h = refl
+free_none (Some x) m h = absurd (false≢true h)
 
 pub no_requests-range : QueueRange no_requests
 no_requests-range = record { once = refl; carries = refl; aborts = none }
   where
-    none : (m : Mailbox) → flag no_requests.aborts m ≡ true → is_from Nobody m ≡ true
+    none : (m : Mailbox) → flag no_requests.aborts m ≡ true → is_from None m ≡ true
     none M0 h = h
     none M1 h = h
     none M2 h = h
@@ -110,7 +109,7 @@ module _ (q : Queue) (m : Mailbox) (r : QueueRange q) where
   }
 
   -- the transmission of m ends; m's own remembered abort ends its request
-  pub off_wire-range : q.transmitting ≡ From m → (over : Bool) → (over ≡ false → flag q.aborts m ≡ false) → QueueRange (off_wire q m over)
+  pub off_wire-range : q.transmitting ≡ Some m → (over : Bool) → (over ≡ false → flag q.aborts m ≡ false) → QueueRange (off_wire q m over)
   unfolding off_wire
   off_wire-range e over k =
       let own : (x : Mailbox) → flag q.aborts x ≡ true → same m x ≡ true = λ x on. rw e at (r.aborts x on) in
@@ -122,7 +121,7 @@ module _ (q : Queue) (m : Mailbox) (r : QueueRange q) where
       })
       (λ no. record { once = r.once; carries = refl; aborts = λ x. none-set q.aborts m x (own x) (k no) })
 
-pub aborted_all-range : (q : Queue) (f : MailboxBits) → QueueRange q → QueueRange (aborted_all q f)
+pub aborted_all-range : (q : Queue) (f : ByMailbox Bool) → QueueRange q → QueueRange (aborted_all q f)
 unfolding aborted_all
 aborted_all-range q f r = aborted-range _ M2 (aborted-range _ M1 (aborted-range q M0 r f.m0) f.m1) f.m2
 
@@ -135,7 +134,7 @@ aborted-wire b q m =
     (λ _. pick_cases (λ (p : Queue). p.transmitting ≡ q.transmitting) (is_from q.transmitting m) _ _ (λ _. refl) (λ _. refl))
     (λ _. refl)
 
-pub aborted_all-wire : (q : Queue) (f : MailboxBits) → (aborted_all q f).transmitting ≡ q.transmitting
+pub aborted_all-wire : (q : Queue) (f : ByMailbox Bool) → (aborted_all q f).transmitting ≡ q.transmitting
 unfolding aborted_all
 aborted_all-wire q f = aborted-wire f.m2 _ M2 ∙ (aborted-wire f.m1 _ M1 ∙ aborted-wire f.m0 q M0)
 

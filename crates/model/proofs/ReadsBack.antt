@@ -1,4 +1,5 @@
 -- What was written to a control register or a filter word reads back, and no other step but a reset changes it.
+use Rattle.std.proofs.Common.{Option, Some, None}
 use mathlib.Core.Bool.{Bool, true, false, true≢false}
 use mathlib.Core.List.{List, [], ◌∷◌}
 use mathlib.Core.Path.{◌≡◌, refl, sym, ap, subst, ◌∙◌}
@@ -15,8 +16,6 @@ use Rattle.model.specs.Codes.{offset_of, IsPresent, reads}
 use Rattle.model.specs.ReadBack.{Accepts, after_write, Within, ReadBack, sets, Stays, OnlyWrites, has, ResetWords}
 use Rattle.model.specs.declared.Mailbox.TheVariants.{M0, M1, M2}
 use Rattle.model.specs.declared.Bank.{Bank}
-use Rattle.model.specs.declared.Sender.{Sender}
-use Rattle.model.specs.declared.Sender.TheVariants.{Nobody, From}
 use Rattle.model.specs.declared.Fifo.TheVariants.{F0, F1}
 use Rattle.model.specs.declared.Filters.{Filters}
 use Rattle.model.specs.declared.Core.{Core}
@@ -30,6 +29,7 @@ use Rattle.model.proofs.Computed.{everything}
 use Rattle.model.proofs.MaskedBits.{next_bit, mcr-bits, ier-bits, btr-bits, filter-bits}
 use Rattle.model.proofs.RegisterAccess.{read_word_lem, write_core, accepts, elsewhere, step_keeps}
 use Rattle.model.proofs.DoneSteps.{rule_left}
+use Rattle.model.specs.declared.Mailbox.{Mailbox}
 
 -- ---- read back
 
@@ -171,15 +171,15 @@ written_left (R1 b) o c w e = left (Write o w) c _ (record { mcr = λ i n. refl;
 written_left (R2 b) o c w e = left (Write o w) c _ (record { mcr = λ i n. refl; ier = refl; btr = refl; filters = refl })
 written_left Absent o c w e = left (Write o w) c _ (record { mcr = λ i n. refl; ier = refl; btr = refl; filters = refl })
 
-started_unchanged : (v : Sender) (c : Core) → Unchanged c (started_by v c)
+started_unchanged : (v : Option Mailbox) (c : Core) → Unchanged c (started_by v c)
 unfolding started_by
-started_unchanged Nobody c = record { mcr = λ i n. refl; ier = refl; btr = refl; filters = refl }
-started_unchanged (From m) c = record { mcr = λ i n. refl; ier = refl; btr = refl; filters = refl }
+started_unchanged None c = record { mcr = λ i n. refl; ier = refl; btr = refl; filters = refl }
+started_unchanged (Some m) c = record { mcr = λ i n. refl; ier = refl; btr = refl; filters = refl }
 
-ended_unchanged : (x : Sender) (c : Core) (v : List ℕ) (n : ℕ) → Unchanged c (ended_by x c v n)
+ended_unchanged : (x : Option Mailbox) (c : Core) (v : List ℕ) (n : ℕ) → Unchanged c (ended_by x c v n)
 unfolding ended_by stored_by errors_changed
-ended_unchanged Nobody c v n = record { mcr = λ i n. refl; ier = refl; btr = refl; filters = refl }
-ended_unchanged (From m) c v n = record { mcr = λ i n. refl; ier = refl; btr = refl; filters = refl }
+ended_unchanged None c v n = record { mcr = λ i n. refl; ier = refl; btr = refl; filters = refl }
+ended_unchanged (Some m) c v n = record { mcr = λ i n. refl; ier = refl; btr = refl; filters = refl }
 
 -- SLEEP cleared: no other bit changes
 sleep_cleared_lem : (w i : ℕ) → w / 2 ^ 1 % 2 ≡ 1 → eqb i 1 ≡ false → bit i (w - 2) ≡ bit i w

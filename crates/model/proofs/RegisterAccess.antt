@@ -1,4 +1,5 @@
 -- A read gives the word of the register at its offset; an accepted write does what the register's rule says, and the mode rule follows.
+use Rattle.std.proofs.Common.{Option, Some, ℕ}
 use mathlib.Core.Bool.{Bool, true, false, true≢false}
 use mathlib.Core.Path.{◌≡◌, refl, sym, ap, ◌∙◌}
 use Prim.Native.Nat.{ℕ}
@@ -14,11 +15,8 @@ use Rattle.model.specs.Step.{step, answered, core_after, refusal, word_of, appli
 use Rattle.model.specs.Codes.{offset_of, IsPresent, reads}
 use Rattle.model.specs.ReadBack.{Accepts, after_write}
 use Rattle.model.specs.declared.Mailbox.{Mailbox}
-use Rattle.model.specs.declared.Sender.{Sender}
-use Rattle.model.specs.declared.Sender.TheVariants.{From}
 use Rattle.model.specs.declared.RequestOrder.{RequestOrder}
 use Rattle.model.specs.declared.RequestOrder.TheVariants.{Empty, One, Two, Three}
-use Rattle.model.specs.declared.Identifiers.{Identifiers}
 use Rattle.model.specs.declared.Core.{Core}
 use Rattle.model.specs.declared.Controller.{Controller}
 use Rattle.model.specs.declared.Register.{Register}
@@ -27,6 +25,7 @@ use Rattle.model.specs.declared.Step.TheVariants.{Start}
 use Rattle.base.proofs.Choices.{opposed, pick_cases}
 use Rattle.model.proofs.Mapped.{map}
 use Rattle.model.proofs.Follows.{Startable, startable}
+use Rattle.model.specs.declared.ByMailbox.{ByMailbox}
 
 -- ---- accesses
 
@@ -65,11 +64,11 @@ step_keeps f z s rule h =
 -- ---- a start
 
 -- where there is a request, there is a first one
-pub record Somebody (v : Sender) : Type 0 where
+pub record Somebody (v : Option Mailbox) : Type 0 where
   pub mailbox : Mailbox
-  pub is : v ≡ From mailbox
+  pub is : v ≡ Some mailbox
 
-pub first_somebody : (b : Bool) (i : Identifiers) (o : RequestOrder) → is_empty o ≡ false → Somebody (first b i o)
+pub first_somebody : (b : Bool) (i : ByMailbox ℕ) (o : RequestOrder) → is_empty o ≡ false → Somebody (first b i o)
 unfolding first first_in_wire_order
 first_somebody b i Empty e = absurd (true≢false e)
 first_somebody true i (One x) e = record { mailbox = x; is = refl }
@@ -83,7 +82,7 @@ first_somebody false i (Three x y u) e = record { mailbox = sooner i (sooner i x
 pub record Starts (z : Controller) : Type 0 where
   pub may : Startable z.core
   pub mailbox : Mailbox
-  pub is : first_of (txfp z.core.control) z.core.transmit ≡ From mailbox
+  pub is : first_of (txfp z.core.control) z.core.transmit ≡ Some mailbox
   pub word : (step z Start).word ≡ number mailbox
   pub core : (step z Start).controller.core ≡ settled (with_transmit z.core (started z.core.transmit mailbox z.core.control.timer))
 

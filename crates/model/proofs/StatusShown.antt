@@ -1,4 +1,5 @@
 -- CODE and LOW in the words of priority.
+use Rattle.std.proofs.Common.{Option, Some, None}
 use mathlib.Core.Bool.{Bool, true, false, not, false≢true}
 use mathlib.Core.Path.{◌≡◌, refl, sym, ap, ◌∙◌}
 use Prim.Native.Nat.{◌<◌, ◌≤◌}
@@ -10,12 +11,10 @@ use Rattle.model.specs.Mailboxes.{identifiers, last_of, tme, low, code}
 use Rattle.model.specs.Control.{txfp}
 use Rattle.model.specs.Reachable.{distinct, InRange}
 use Rattle.model.specs.Shown as read
-use Rattle.model.specs.Arbitration.{requests, IsLast, Some}
+use Rattle.model.specs.Arbitration.{requests, IsLast, SomeMailbox}
 use Rattle.model.specs.TransmitStatus.{StatusWord}
 use Rattle.model.specs.declared.Mailbox.{Mailbox}
 use Rattle.model.specs.declared.Mailbox.TheVariants.{M0, M1, M2}
-use Rattle.model.specs.declared.Sender.{Sender}
-use Rattle.model.specs.declared.Sender.TheVariants.{Nobody, From}
 use Rattle.model.specs.declared.RequestOrder.{RequestOrder}
 use Rattle.model.specs.declared.RequestOrder.TheVariants.{Empty, One, Two, Three}
 use Rattle.model.specs.declared.Transmit.{Transmit}
@@ -27,17 +26,17 @@ use Rattle.model.proofs.Arbitrated.{each_of, has-order, same_self, last_somebody
 
 -- ---- who is left besides the one on the wire
 
-pub from_is : (v : Sender) (m : Mailbox) → is_from v m ≡ true → v ≡ From m
-from_is Nobody m h = absurd (false≢true h)
-from_is (From a) m h = ap From (same-eq a m h)
+pub from_is : (v : Option Mailbox) (m : Mailbox) → is_from v m ≡ true → v ≡ Some m
+from_is None m h = absurd (false≢true h)
+from_is (Some a) m h = ap Some (same-eq a m h)
 
 held-some : (o : RequestOrder) (m : Mailbox) → holds o m ≡ true → is_empty o ≡ false
 held-some o m h = Is-not _ (imp_Is (each_of (λ o m. imp (holds o m) (not (is_empty o))) refl o m) h)
 
 -- of two or more one at least is not on the wire
-two-some : (v : Sender) (o : RequestOrder) → distinct o ≡ true → two_or_more o ≡ true → is_empty (besides v o) ≡ false
-two-some Nobody o d h = Is-not _ (imp_Is (each-order (λ o. imp (two_or_more o) (not (is_empty o))) refl o) h)
-two-some (From y) o d h = Is-not _ (imp_Is (imp_Is (each_of (λ o y. imp (distinct o) (imp (two_or_more o) (not (is_empty (without o y))))) refl o y) d) h)
+two-some : (v : Option Mailbox) (o : RequestOrder) → distinct o ≡ true → two_or_more o ≡ true → is_empty (besides v o) ≡ false
+two-some None o d h = Is-not _ (imp_Is (each-order (λ o. imp (two_or_more o) (not (is_empty o))) refl o) h)
+two-some (Some y) o d h = Is-not _ (imp_Is (imp_Is (each_of (λ o y. imp (distinct o) (imp (two_or_more o) (not (is_empty (without o y))))) refl o y) d) h)
 
 three-two : (o : RequestOrder) → holds o M0 ≡ true → holds o M1 ≡ true → holds o M2 ≡ true → two_or_more o ≡ true
 three-two o a b c = imp_Is (imp_Is (imp_Is (each-order (λ o. imp (holds o M0) (imp (holds o M1) (imp (holds o M2) (two_or_more o)))) refl o) a) b) c
@@ -72,7 +71,7 @@ module _ (z : Controller) (i : InRange z) where
   lowest-empty M1 h f = rw (f M0 (omega arith), h)
   lowest-empty M2 h f = rw (f M0 (omega arith), f M1 (omega arith), h)
 
-  none-empty : ((x : Mailbox) → tme t x ≡ false) → Some (λ x. (code p t ≡ number x) × IsLast z x)
+  none-empty : ((x : Mailbox) → tme t x ≡ false) → SomeMailbox (λ x. (code p t ≡ number x) × IsLast z x)
   unfolding code
   none-empty f =
       let s = last_somebody p (identifiers t.mailboxes) (besides t.queue.transmitting t.queue.order)
@@ -94,7 +93,7 @@ module _ (z : Controller) (i : InRange z) where
       let e : s.mailbox ≡ m = last_unique z d s.mailbox m (is_last z d s.mailbox s.is) l in
       rw (long_two t.queue.order n, s.is, e) (same_self m)
 
-  some-last : 2 ≤ length (requests z) → Some (λ x. read.low x z ≡ true)
+  some-last : 2 ≤ length (requests z) → SomeMailbox (λ x. read.low x z ≡ true)
   some-last n =
       let s = last_somebody p (identifiers t.mailboxes) (besides t.queue.transmitting t.queue.order) (two-some t.queue.transmitting t.queue.order d (long_two t.queue.order n)) in
       record { mailbox = s.mailbox; meets = (flags-shown z s.mailbox).low ∙ last-shown s.mailbox n (is_last z d s.mailbox s.is) }

@@ -1,4 +1,5 @@
 -- What TSR writes, TI writes, a master reset and an own end do to the flags and the requests; nothing else does.
+use Rattle.std.proofs.Common.{Option, Some, None, Bool}
 use mathlib.Core.Bool.{Bool, true, false, not, ◌&&◌, ◌||◌, true≢false, false≢true, or-true, or-false}
 use mathlib.Core.List.{List, [], ◌∷◌, ◌++◌}
 use mathlib.Core.Path.{◌≡◌, refl, sym, ap, ap₂, ◌∙◌}
@@ -21,11 +22,8 @@ use Rattle.model.specs.Arbitration.{on_wire, is_pending}
 use Rattle.model.specs.TransmitStatus.{except, asks_abort, TsrWrite, TiWrite, Dropped, ends_request, after_end, OwnEnd, concerns, FlagsStay, RequestsStay}
 use Rattle.model.specs.declared.Mailbox.{Mailbox}
 use Rattle.model.specs.declared.Mailbox.TheVariants.{M0, M1, M2}
-use Rattle.model.specs.declared.Sender.{Sender}
-use Rattle.model.specs.declared.Sender.TheVariants.{Nobody, From}
 use Rattle.model.specs.declared.RequestOrder.{RequestOrder}
 use Rattle.model.specs.declared.RequestOrder.TheVariants.{Empty, One, Two, Three}
-use Rattle.model.specs.declared.MailboxBits.{MailboxBits}
 use Rattle.model.specs.declared.Queue.{Queue}
 use Rattle.model.specs.declared.MailboxState.{MailboxState}
 use Rattle.model.specs.declared.Transmit.{Transmit}
@@ -47,6 +45,7 @@ use Rattle.model.proofs.Arbitrated.{pending_by, each_of, has-wire, same_self}
 use Rattle.model.proofs.ShownWords.{mcr-shown}
 use Rattle.model.proofs.StatusWord.{flags-shown}
 use Rattle.model.proofs.ErrorRules.{coded_end}
+use Rattle.model.specs.declared.ByMailbox.{ByMailbox}
 
 -- ---- lists of numbers, by computed tests
 
@@ -77,20 +76,20 @@ each_bool : (p : Bool → Bool) → bools p ≡ true → (b : Bool) → p b ≡ 
 each_bool p h true = and_l (p true) (p false) h
 each_bool p h false = and_r (p true) (p false) h
 
-abbrev senders : (Sender → Bool) → Bool
-senders p = p Nobody && mailboxes (λ m. p (From m))
+abbrev senders : ((Option Mailbox) → Bool) → Bool
+senders p = p None && mailboxes (λ m. p (Some m))
 
-each_sender : (p : Sender → Bool) → senders p ≡ true → (v : Sender) → p v ≡ true
-each_sender p h Nobody = and_l (p Nobody) (mailboxes (λ m. p (From m))) h
-each_sender p h (From m) = each-mailbox (λ m. p (From m)) (and_r (p Nobody) (mailboxes (λ m. p (From m))) h) m
+each_sender : (p : Option Mailbox → Bool) → senders p ≡ true → (v : Option Mailbox) → p v ≡ true
+each_sender p h None = and_l (p None) (mailboxes (λ m. p (Some m))) h
+each_sender p h (Some m) = each-mailbox (λ m. p (Some m)) (and_r (p None) (mailboxes (λ m. p (Some m))) h) m
 
 -- one of three flags by a mailbox's number
 abbrev numbered_flag : Bool → Bool → Bool → ℕ → Bool
 numbered_flag a b c n = pick (eqb n 0) a (pick (eqb n 1) b c)
 
 -- the requests after the aborts a, b, c, the wire being v
-module _ (g : MailboxBits) where
-  unfoldable abort_test : Bool → Bool → Bool → Sender → RequestOrder → Bool
+module _ (g : ByMailbox Bool) where
+  unfoldable abort_test : Bool → Bool → Bool → Option Mailbox → RequestOrder → Bool
   abort_test a b c v o =
       imp (distinct o) (same_list
       (order_numbers (aborted c (aborted b (aborted a (record { order = o; transmitting = v; aborts = g }) M0) M1) M2).order)
@@ -100,7 +99,7 @@ module _ (g : MailboxBits) where
   unfolding abort_test aborted
   all-aborts = refl
 
-  each_abort : (a b c : Bool) (v : Sender) (o : RequestOrder) → abort_test a b c v o ≡ true
+  each_abort : (a b c : Bool) (v : Option Mailbox) (o : RequestOrder) → abort_test a b c v o ≡ true
   each_abort a b c v =
       each-order (λ o. abort_test a b c v o)
       (each_sender (λ v. orders (λ o. abort_test a b c v o))
@@ -127,7 +126,7 @@ aborted-numbers q w d =
     by_number M1 = refl
     by_number M2 = refl
 
-flagged-at : (g : MailboxBits) (k m : Mailbox) (b : Bool) → flag (flagged g k b) m ≡ pick (same k m) b (flag g m)
+flagged-at : (g : ByMailbox Bool) (k m : Mailbox) (b : Bool) → flag (flagged g k b) m ≡ pick (same k m) b (flag g m)
 flagged-at g M0 M0 b = refl
 flagged-at g M0 M1 b = refl
 flagged-at g M0 M2 b = refl
@@ -143,9 +142,9 @@ module _ (q : Queue) (r : QueueRange q) (k m : Mailbox) where
   wire-held : is_from q.transmitting k ≡ true → holds q.order k ≡ true
   wire-held h = go q.transmitting r.carries h
     where
-      go : (v : Sender) → carried v q.order ≡ true → is_from v k ≡ true → holds q.order k ≡ true
-      go Nobody c e = absurd (false≢true e)
-      go (From a) c e = ap (λ (x : Mailbox). holds q.order x) (sym (same-eq a k e)) ∙ c
+      go : (v : Option Mailbox) → carried v q.order ≡ true → is_from v k ≡ true → holds q.order k ≡ true
+      go None c e = absurd (false≢true e)
+      go (Some a) c e = ap (λ (x : Mailbox). holds q.order x) (sym (same-eq a k e)) ∙ c
 
   not-remembered : is_from q.transmitting k ≡ false → flag q.aborts k ≡ false
   not-remembered n = go (flag q.aborts k) refl
@@ -191,10 +190,10 @@ module _ (q : Queue) (r : QueueRange q) (w : ℕ) where
   aborted_all-flag M1 =
       aborted-flag q1 r1 M2 M1 (bit 23 w)
       ∙ aborted-flag q0 r0 M1 M1 (bit 15 w)
-      ∙ ap₂ (λ (x : Bool) (v : Sender). x || (bit 15 w && is_from v M1)) (aborted-flag q r M0 M1 (bit 7 w)) (aborted-wire (bit 7 w) q M0)
+      ∙ ap₂ (λ (x : Bool) (v : Option Mailbox). x || (bit 15 w && is_from v M1)) (aborted-flag q r M0 M1 (bit 7 w)) (aborted-wire (bit 7 w) q M0)
   aborted_all-flag M2 =
       aborted-flag q1 r1 M2 M2 (bit 23 w)
-      ∙ ap₂ (λ (x : Bool) (v : Sender). x || (bit 23 w && is_from v M2))
+      ∙ ap₂ (λ (x : Bool) (v : Option Mailbox). x || (bit 23 w && is_from v M2))
       (aborted-flag q0 r0 M1 M2 (bit 15 w) ∙ aborted-flag q r M0 M2 (bit 7 w))
       (aborted-wire (bit 15 w) q0 M1 ∙ aborted-wire (bit 7 w) q M0)
 
@@ -313,9 +312,9 @@ requests-dropped z w m h =
 
 -- ---- own end
 
-wire-from : (v : Sender) (m : Mailbox) → sender_numbers v ≡ number m ∷ [] → v ≡ From m
-wire-from Nobody m e = absurd (let n : ◌≡◌ {A = ℕ} 0 1 = ap length e in omega arith)
-wire-from (From a) m e = ap From (number-eq a m (let n : number a ≡ number m = cc in n))
+wire-from : (v : Option Mailbox) (m : Mailbox) → sender_numbers v ≡ number m ∷ [] → v ≡ Some m
+wire-from None m e = absurd (let n : ◌≡◌ {A = ℕ} 0 1 = ap length e in omega arith)
+wire-from (Some a) m e = ap Some (number-eq a m (let n : number a ≡ number m = cc in n))
 
 end_range : (a b : Bool) → ◌≡◌ {A = ℕ} (pick a 5 (pick b 0 4)) 0 → a ≡ false
 end_range true b h = absurd (let n : ◌≡◌ {A = ℕ} 5 0 = h in omega arith)
@@ -329,10 +328,10 @@ end_core : (z : Controller) (r : ℕ) → (step z (Outcome r)).code ≡ 0 → (s
 unfolding step answered core_after refusal applied
 end_core z r h = rw h
 
-ended-after : (z : Controller) (m : Mailbox) (r : ℕ) → z.core.transmit.queue.transmitting ≡ From m → (step z (Outcome r)).code ≡ 0
+ended-after : (z : Controller) (m : Mailbox) (r : ℕ) → z.core.transmit.queue.transmitting ≡ Some m → (step z (Outcome r)).code ≡ 0
     → (after_end z r).core.transmit ≡ ended z.core.transmit m r (nart z.core.control)
 unfolding settled ended_by
-ended-after z m r e h = ap (λ (c : Core). c.transmit) (end_core z r h) ∙ ap (λ (v : Sender). (ended_by v z.core z.banks r).transmit) e
+ended-after z m r e h = ap (λ (c : Core). c.transmit) (end_core z r h) ∙ ap (λ (v : Option Mailbox). (ended_by v z.core z.banks r).transmit) e
 
 -- the flags and the request of the mailbox that ends, b saying whether the request ends
 off-flag : (q : Queue) (m : Mailbox) (b : Bool) → (b ≡ false → flag q.aborts m ≡ false) → flag (off_wire q m b).aborts m ≡ false
@@ -346,7 +345,7 @@ unfolding off_wire
 off-numbers q m true d = without-numbers q.order m d
 off-numbers q m false d = refl
 
-off_wire_lem : (q : Queue) (m : Mailbox) (b : Bool) → (off_wire q m b).transmitting ≡ Nobody
+off_wire_lem : (q : Queue) (m : Mailbox) (b : Bool) → (off_wire q m b).transmitting ≡ None
 unfolding off_wire
 off_wire_lem q m true = refl
 off_wire_lem q m false = refl
@@ -358,12 +357,12 @@ own_end z m r i f h =
     let y : Controller = after_end z r in
     let n : Bool = nart z.core.control in
     let b : Bool = over t.queue m r n in
-    let w : t.queue.transmitting ≡ From m = wire-from t.queue.transmitting m f in
+    let w : t.queue.transmitting ≡ Some m = wire-from t.queue.transmitting m f in
     let e : y.core.transmit ≡ ended t m r n = ended-after z m r w h in
     let x : MailboxState = outcome_flags (at t.mailboxes m) r b in
     let p : at y.core.transmit.mailboxes m ≡ x = ap (λ (x : Transmit). at x.mailboxes m) e ∙ put_there t.mailboxes m x in
     let k : ends_request z m r ≡ b = ap₂ (λ (u v : Bool). eqb r 0 || u || v) (ap (λ (w : ℕ). bit 4 w) (mcr-shown z)) (flags-shown z m).abrq in
-    let held : holds t.queue.order m ≡ true = ap (λ (v : Sender). carried v t.queue.order) (sym w) ∙ i.core.transmit.queue.carries in
+    let held : holds t.queue.order m ≡ true = ap (λ (v : Option Mailbox). carried v t.queue.order) (sym w) ∙ i.core.transmit.queue.carries in
     let none : (at t.mailboxes m).rqcp ≡ false = i.core.transmit.pending m held in
     let v = flags-shown y m in
     record {
@@ -420,17 +419,17 @@ written-flags (R1 b) o c w m e h = refl
 written-flags (R2 b) o c w m e h = refl
 written-flags Absent o c w m e h = refl
 
-started-flags : (v : Sender) (c : Core) (m : Mailbox) → flags_at (started_by v c) m ≡ flags_at c m
+started-flags : (v : Option Mailbox) (c : Core) (m : Mailbox) → flags_at (started_by v c) m ≡ flags_at c m
 unfolding started_by started
-started-flags Nobody c m = refl
-started-flags (From k) c m = put-field flags c.transmit.mailboxes k _ m (λ _. refl)
+started-flags None c m = refl
+started-flags (Some k) c m = put-field flags c.transmit.mailboxes k _ m (λ _. refl)
 
-ended-flags : (v : Sender) (c : Core) (b : List ℕ) (r : ℕ) (m : Mailbox) → has (sender_numbers v) (number m) ≡ false → flags_at (ended_by v c b r) m ≡ flags_at c m
+ended-flags : (v : Option Mailbox) (c : Core) (b : List ℕ) (r : ℕ) (m : Mailbox) → has (sender_numbers v) (number m) ≡ false → flags_at (ended_by v c b r) m ≡ flags_at c m
 unfolding ended_by ended
-ended-flags Nobody c b r m h = refl
-ended-flags (From k) c b r m h =
+ended-flags None c b r m h = refl
+ended-flags (Some k) c b r m h =
     put-field flags c.transmit.mailboxes k _ m
-    (λ q. opposed (ap (λ (x : Mailbox). same k x) (sym q) ∙ same_self k) (sym (has-wire (From k) m) ∙ h))
+    (λ q. opposed (ap (λ (x : Mailbox). same k x) (sym q) ∙ same_self k) (sym (has-wire (Some k) m) ∙ h))
 
 applied-flags : (s : steps.Step) (z : Controller) (m : Mailbox) → concerns z s m ≡ false → flags_at (applied z.core z.banks s) m ≡ flags_at z.core m
 unfolding applied stored_by

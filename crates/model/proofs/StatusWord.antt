@@ -1,4 +1,5 @@
 -- TSR bit by bit, and what a read of it shows.
+use Rattle.std.proofs.Common.{Option, Some, None}
 use mathlib.Core.Bool.{Bool, true, false, not}
 use mathlib.Core.List.{List, [], ◌∷◌}
 use mathlib.Core.Path.{◌≡◌, refl, sym, ap, ◌∙◌}
@@ -14,8 +15,6 @@ use Rattle.model.specs.Control.{txfp}
 use Rattle.model.specs.Shown as read
 use Rattle.model.specs.declared.Mailbox.{Mailbox}
 use Rattle.model.specs.declared.Mailbox.TheVariants.{M0, M1, M2}
-use Rattle.model.specs.declared.Sender.{Sender}
-use Rattle.model.specs.declared.Sender.TheVariants.{Nobody, From}
 use Rattle.model.specs.declared.Transmit.{Transmit}
 use Rattle.model.specs.declared.MailboxState.{MailboxState}
 use Rattle.model.specs.declared.Controller.{Controller}
@@ -54,11 +53,11 @@ bit-number i w = go (bit i w) refl
 
 -- ---- TSR
 
-pub sender_small : (v : Sender) → sender_number v ≤ 2
-sender_small Nobody = omega arith
-sender_small (From M0) = omega arith
-sender_small (From M1) = omega arith
-sender_small (From M2) = omega arith
+pub sender_small : (v : Option Mailbox) → sender_number v ≤ 2
+sender_small None = omega arith
+sender_small (Some M0) = omega arith
+sender_small (Some M1) = omega arith
+sender_small (Some M2) = omega arith
 
 code_small : (p : Bool) (t : Transmit) → code p t ≤ 3
 unfolding code

@@ -1,4 +1,5 @@
 -- The timer is what the events say.
+use Rattle.std.proofs.Common.{Option, Some, None}
 use mathlib.Core.Bool.{Bool, true, false, ◌&&◌, false≢true, and-true}
 use mathlib.Core.Path.{◌≡◌, refl, sym, ap, ◌∙◌}
 use mathlib.Core.List.{List, [], ◌∷◌}
@@ -13,8 +14,6 @@ use Rattle.model.specs.Requests.{after}
 use Rattle.model.specs.Reachable.{InRange, StepRange, StepsRange}
 use Rattle.model.specs.History.{timer_next, timer_from}
 use Rattle.model.specs.Shown.{bit_times}
-use Rattle.model.specs.declared.Sender.{Sender}
-use Rattle.model.specs.declared.Sender.TheVariants.{Nobody, From}
 use Rattle.model.specs.declared.Fifo.TheVariants.{F0, F1}
 use Rattle.model.specs.declared.Core.{Core}
 use Rattle.model.specs.declared.Controller.{Controller}
@@ -29,6 +28,7 @@ use Rattle.model.proofs.ReadFields.{normal-read}
 use Rattle.model.proofs.Reached.{step-in_range}
 use Rattle.model.proofs.Masks.{ttcm_masked}
 use Rattle.model.proofs.DoneSteps.{rule_left}
+use Rattle.model.specs.declared.Mailbox.{Mailbox}
 
 -- a write leaves it, where TTCM is 1 after the write
 written-timer : (r : Register) (c : Core) (w : ℕ) → Is (ttcm (written r c w).control) → (written r c w).control.timer ≡ c.control.timer
@@ -68,15 +68,15 @@ still : (n : Bool) (t : ℕ) → t < 65536 → t ≡ pick n ((t + 0) % 65536) t
 still true t h = omega arith
 still false t h = refl
 
-start-timer : (v : Sender) (c : Core) → (started_by v c).control.timer ≡ c.control.timer
+start-timer : (v : Option Mailbox) (c : Core) → (started_by v c).control.timer ≡ c.control.timer
 unfolding started_by
-start-timer Nobody c = refl
-start-timer (From m) c = refl
+start-timer None c = refl
+start-timer (Some m) c = refl
 
-end_timer : (v : Sender) (c : Core) (b : List ℕ) (r : ℕ) → (ended_by v c b r).control.timer ≡ c.control.timer
+end_timer : (v : Option Mailbox) (c : Core) (b : List ℕ) (r : ℕ) → (ended_by v c b r).control.timer ≡ c.control.timer
 unfolding ended_by stored_by errors_changed
-end_timer Nobody c b r = refl
-end_timer (From m) c b r = refl
+end_timer None c b r = refl
+end_timer (Some m) c b r = refl
 
 applied-timer : (c : Core) (b : List ℕ) (s : steps.Step) → c.control.timer < 65536 → Is (ttcm (applied c b s).control)
     → (applied c b s).control.timer ≡ pick (is_normal c.control.mode) ((c.control.timer + bit_times s) % 65536) c.control.timer

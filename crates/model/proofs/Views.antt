@@ -1,5 +1,6 @@
 -- The requests of a controller: what an event does to them, that the observer's requests are theirs, and that a request
 -- draws nearer to the wire.
+use Rattle.std.proofs.Common.{Option, Some, None}
 use mathlib.Core.Bool.{Bool, true, false, not, ◌&&◌, ◌||◌, false≢true, and-true, and-false}
 use mathlib.Core.Path.{◌≡◌, refl, sym, subst, ap, ◌∙◌}
 use Prim.Native.Nat.{ℕ, ◌≤◌, ◌+◌}
@@ -12,8 +13,6 @@ use Rattle.model.specs.Reachable.{distinct, carried}
 use Rattle.model.specs.Fairness.{in_order, other_end, other_on, is_good}
 use Rattle.model.specs.declared.Mailbox.{Mailbox}
 use Rattle.model.specs.declared.Mailbox.TheVariants.{M0, M1, M2}
-use Rattle.model.specs.declared.Sender.{Sender}
-use Rattle.model.specs.declared.Sender.TheVariants.{Nobody, From}
 use Rattle.model.specs.declared.RequestOrder.{RequestOrder}
 use Rattle.model.specs.declared.Queue.{Queue}
 use Rattle.model.proofs.Orders.{ahead, out_of, flag_out, out_without, distinct_without, gone_without, out_joined, distinct-joined, still, nearer, one_nearer, kept-without, gone_stays, kept-joined, ahead_joined, oldest-first, same-eq, same_comm}
@@ -28,9 +27,9 @@ pub record View : Type 0 where
 abbrev pub with_queue : View → Queue → View
 with_queue d q = record { queue = q; nart = d.nart; txfp = d.txfp }
 
-abbrev pub off_view : Sender → View → Bool → View
-off_view Nobody d good = d
-off_view (From m) d good = with_queue d (off_wire d.queue m (good || d.nart || flag d.queue.aborts m))
+abbrev pub off_view : Option Mailbox → View → Bool → View
+off_view None d good = d
+off_view (Some m) d good = with_queue d (off_wire d.queue m (good || d.nart || flag d.queue.aborts m))
 
 -- what an event does
 abbrev pub view_next : View → Event → View
@@ -67,9 +66,9 @@ abbrev pub requests_of : View → Requests
 requests_of d = record { outstanding = out_of d.queue.order; marks = d.queue.aborts; transmitting = d.queue.transmitting; nart = d.nart; txfp = d.txfp }
 
 -- m off the order, still carried if it is not the one on the wire
-pub carried-without : (w : Sender) (o : RequestOrder) (m : Mailbox) → Is (carried w o) → Not (is_from w m) → Is (carried w (without o m))
-carried-without Nobody o m h n = refl
-carried-without (From x) o m h n = kept-without o x m h (not-Is (same_comm m x ∙ n))
+pub carried-without : (w : Option Mailbox) (o : RequestOrder) (m : Mailbox) → Is (carried w o) → Not (is_from w m) → Is (carried w (without o m))
+carried-without None o m h n = refl
+carried-without (Some x) o m h n = kept-without o x m h (not-Is (same_comm m x ∙ n))
 
 emptied_sound : (q : Queue) (m : Mailbox) → Sound q → Not (is_from q.transmitting m) → Sound (emptied q m)
 emptied_sound q m g n = record { once = distinct_without q.order g.once m; wired = carried-without q.transmitting q.order m g.wired n }
@@ -81,14 +80,14 @@ aborted_sound b q m g =
     (λ _. pick_cases Sound (is_from q.transmitting m) _ _ (λ _. record { once = g.once; wired = g.wired }) (λ n. emptied_sound q m g n))
     (λ _. g)
 
-pub carried-joined : (w : Sender) (o : RequestOrder) (x : Mailbox) → Is (carried w o) → Is (carried w (joined o x))
-carried-joined Nobody o x h = refl
-carried-joined (From m) o x h = kept-joined o m x h
+pub carried-joined : (w : Option Mailbox) (o : RequestOrder) (x : Mailbox) → Is (carried w o) → Is (carried w (joined o x))
+carried-joined None o x h = refl
+carried-joined (Some m) o x h = kept-joined o m x h
 
-off_sound : (w : Sender) (d : View) (good : Bool) → Sound d.queue → Sound (off_view w d good).queue
+off_sound : (w : Option Mailbox) (d : View) (good : Bool) → Sound d.queue → Sound (off_view w d good).queue
 unfolding off_wire
-off_sound Nobody d good g = g
-off_sound (From m) d good g =
+off_sound None d good g = g
+off_sound (Some m) d good g =
     pick_cases Sound (good || d.nart || flag d.queue.aborts m) _ _
     (λ _. record { once = distinct_without d.queue.order g.once m; wired = refl })
     (λ _. record { once = g.once; wired = refl })
@@ -117,10 +116,10 @@ abort_follows : (a : Bool) (d : View) (m : Mailbox) → Sound d.queue → abort_
 unfolding aborted
 abort_follows a d m g = rw (flag_out d.queue.order m) (abort_choice (a && holds d.queue.order m) d m g)
 
-end_follows : (w : Sender) (d : View) (good : Bool) → Sound d.queue → end_seen w (requests_of d) good ≡ requests_of (off_view w d good)
+end_follows : (w : Option Mailbox) (d : View) (good : Bool) → Sound d.queue → end_seen w (requests_of d) good ≡ requests_of (off_view w d good)
 unfolding off_wire
-end_follows Nobody d good g = refl
-end_follows (From m) d good g =
+end_follows None d good g = refl
+end_follows (Some m) d good g =
     sym (pick-both (λ q. requests_of (with_queue d q)) (good || d.nart || flag d.queue.aborts m) _ _ _ _
     (sym (closed-emptied (with_queue d (freed d.queue)) m (record { once = g.once; wired = refl }))) refl)
 
@@ -141,9 +140,9 @@ requests_follow d (starts m) g k = refl
 requests_follow d (ends good) g k = end_follows d.queue.transmitting d good g
 
 -- none on the wire stands behind m
-abbrev pub in_front : Sender → Mailbox → RequestOrder → Bool
-in_front Nobody m o = true
-in_front (From x) m o = leb (ahead x o) (ahead m o)
+abbrev pub in_front : Option Mailbox → Mailbox → RequestOrder → Bool
+in_front None m o = true
+in_front (Some x) m o = leb (ahead x o) (ahead m o)
 
 -- how many can end on the wire before m: those ahead of it, and one on the wire behind it, as after a start by identifier
 abbrev pub rank : Queue → Mailbox → ℕ
@@ -157,13 +156,13 @@ pub data Turn (q q' : Queue) (m : Mailbox) (other good : Bool) : Type 0 where
   over : Is (not (holds q'.order m)) → other ≡ false → Turn q q' m other good
   on : Waits q' m → one other + rank q' m ≤ rank q m → one good ≤ one other → Turn q q' m other good
 
-front-joined : (w : Sender) (o : RequestOrder) (m x : Mailbox) → Is (carried w o) → Is (holds o m) → in_front w m (joined o x) ≡ in_front w m o
-front-joined Nobody o m x c h = refl
-front-joined (From y) o m x c h = rw (ahead_joined o y x c, ahead_joined o m x h)
+front-joined : (w : Option Mailbox) (o : RequestOrder) (m x : Mailbox) → Is (carried w o) → Is (holds o m) → in_front w m (joined o x) ≡ in_front w m o
+front-joined None o m x c h = refl
+front-joined (Some y) o m x c h = rw (ahead_joined o y x c, ahead_joined o m x h)
 
-front-without : (w : Sender) (o : RequestOrder) (m x : Mailbox) → Is (distinct o) → Is (carried w o) → Is (holds o m) → Not (same x m) → Not (is_from w x) → Is (in_front w m o) → Is (in_front w m (without o x))
-front-without Nobody o m x d c h n k f = refl
-front-without (From y) o m x d c h n k f = still o d m x y h c (not-Is n) (not-Is (same_comm x y ∙ k)) f
+front-without : (w : Option Mailbox) (o : RequestOrder) (m x : Mailbox) → Is (distinct o) → Is (carried w o) → Is (holds o m) → Not (same x m) → Not (is_from w x) → Is (in_front w m o) → Is (in_front w m (without o x))
+front-without None o m x d c h n k f = refl
+front-without (Some y) o m x d c h n k f = still o d m x y h c (not-Is n) (not-Is (same_comm x y ∙ k)) f
 
 -- what is in front stays in front
 fewer : (a b : Bool) → (Is a → Is b) → one (not b) ≤ one (not a)
@@ -207,29 +206,29 @@ then_abort a q q' m x g (on w l k) = go (abort_turn a q' m x g w)
     go (on w' l' k') = on w' (omega arith) (omega arith)
 
 -- the one on the wire leaves, from in front of m or from behind it
-nearer_by_one : (b : Bool) (q : Queue) (m x : Mailbox) → in_front (From x) m q.order ≡ b → Is (carried (From x) q.order) → Sound q → Waits q m → Not (same x m)
+nearer_by_one : (b : Bool) (q : Queue) (m x : Mailbox) → in_front (Some x) m q.order ≡ b → Is (carried (Some x) q.order) → Sound q → Waits q m → Not (same x m)
     → 1 + ahead m (without q.order x) ≤ ahead m q.order + one (not b)
 nearer_by_one true q m x f c g w e = omega (arith, one_nearer q.order g.once m x w.held c (not-Is e) f)
 nearer_by_one false q m x f c g w e = omega (arith, nearer q.order g.once m x w.held (not-Is e))
 
-wire_turn : (s good : Bool) (q : Queue) (m x : Mailbox) → same x m ≡ s → Sound q → Waits q m → q.transmitting ≡ From x → Turn q (emptied (freed q) x) m (not s) good
+wire_turn : (s good : Bool) (q : Queue) (m x : Mailbox) → same x m ≡ s → Sound q → Waits q m → q.transmitting ≡ Some x → Turn q (emptied (freed q) x) m (not s) good
 wire_turn true good q m x e g w p = over (subst (λ (y : Mailbox). Is (not (holds (without q.order x) y))) (same-eq x m e) (gone_without q.order g.once x)) refl
 wire_turn false good q m x e g w p =
-    let c : Is (carried (From x) q.order) = subst (λ (v : Sender). Is (carried v q.order)) p g.wired in
+    let c : Is (carried (Some x) q.order) = subst (λ (v : Option Mailbox). Is (carried v q.order)) p g.wired in
     let l : 1 + ahead m (without q.order x) ≤ ahead m q.order + one (not (in_front q.transmitting m q.order)) =
-    subst (λ (v : Sender). 1 + ahead m (without q.order x) ≤ ahead m q.order + one (not (in_front v m q.order))) (sym p) (nearer_by_one (in_front (From x) m q.order) q m x refl c g w e) in
+    subst (λ (v : Option Mailbox). 1 + ahead m (without q.order x) ≤ ahead m q.order + one (not (in_front v m q.order))) (sym p) (nearer_by_one (in_front (Some x) m q.order) q m x refl c g w e) in
     on (record { held = kept-without q.order m x w.held (not-Is e) }) (omega arith) (one-le good)
 
-end_choice : (b good : Bool) (q : Queue) (m x : Mailbox) → (Is good → Is b) → Sound q → Waits q m → q.transmitting ≡ From x → Turn q (off_wire q x b) m (not (same x m) && b) good
+end_choice : (b good : Bool) (q : Queue) (m x : Mailbox) → (Is good → Is b) → Sound q → Waits q m → q.transmitting ≡ Some x → Turn q (off_wire q x b) m (not (same x m) && b) good
 unfolding off_wire
 end_choice true good q m x k g w p = rw and-true (wire_turn (same x m) good q m x refl g w p)
 end_choice false true q m x k g w p = absurd (false≢true (k refl))
 end_choice false false q m x k g w p = rw and-false (on (record { held = w.held }) (omega arith) (omega arith))
 
-end_turn : (v : Sender) (d : View) (good : Bool) (m : Mailbox) → d.queue.transmitting ≡ v → Is (not (is_nobody v)) → Sound d.queue → Waits d.queue m
+end_turn : (v : Option Mailbox) (d : View) (good : Bool) (m : Mailbox) → d.queue.transmitting ≡ v → Is (not (is_nobody v)) → Sound d.queue → Waits d.queue m
     → Turn d.queue (off_view v d good).queue m (other_on m v (requests_of d) good) good
-end_turn Nobody d good m p k g w = absurd (false≢true k)
-end_turn (From x) d good m p k g w = end_choice (good || d.nart || flag d.queue.aborts x) good d.queue m x (λ e. rw e) g w p
+end_turn None d good m p k g w = absurd (false≢true k)
+end_turn (Some x) d good m p k g w = end_choice (good || d.nart || flag d.queue.aborts x) good d.queue m x (λ e. rw e) g w p
 
 pub turn : (d : View) (n : Event) (m : Mailbox) → Sound d.queue → Granted d n → Waits d.queue m → Is (in_order n d.txfp)
     → Turn d.queue (view_next d n).queue m (other_end m n (requests_of d)) (is_good n)

@@ -1,4 +1,5 @@
 -- A FIFO holds the frames that the history says.
+use Rattle.std.proofs.Common.{Option, Some, None}
 use mathlib.Core.Bool.{Bool, true, false, not, ◌&&◌}
 use mathlib.Core.Path.{◌≡◌, refl, sym, subst, ap, ◌∙◌}
 use mathlib.Core.List.{List, [], ◌∷◌}
@@ -17,14 +18,10 @@ use Rattle.model.specs.History.{Traffic, none, empties, releases, arrives, arriv
 use Rattle.model.specs.Shown.{shown, fifo_number}
 use Rattle.model.specs.declared.Mailbox.{Mailbox}
 use Rattle.model.specs.declared.MailboxState.{MailboxState}
-use Rattle.model.specs.declared.Sender.{Sender}
-use Rattle.model.specs.declared.Sender.TheVariants.{Nobody, From}
 use Rattle.model.specs.declared.Fifo.{Fifo}
 use Rattle.model.specs.declared.Fifo.TheVariants.{F0, F1}
 use Rattle.model.specs.declared.StoredFrame.{StoredFrame}
 use Rattle.model.specs.declared.Frame.{Frame}
-use Rattle.model.specs.declared.Acceptance.{Acceptance}
-use Rattle.model.specs.declared.Acceptance.TheVariants.{Into, Rejected}
 use Rattle.model.specs.declared.Control as controls
 use Rattle.model.specs.declared.Errors.{Errors}
 use Rattle.model.specs.declared.Core.{Core}
@@ -41,6 +38,7 @@ use Rattle.model.proofs.Reached.{reset-in_range, step-in_range}
 use Rattle.model.proofs.Timing.{step-timer}
 use Rattle.model.proofs.Fair.{good, step-requests}
 use Rattle.model.proofs.WriteTargets.{fifo-written}
+use Rattle.model.specs.declared.FilterNumber.{FilterNumber}
 
 abbrev Keeps : Fifo → Core → Core → Traffic → Type 0
 Keeps f c d x = (l : List StoredFrame) → Holds (fifo_of f c) l → Holds (fifo_of f d) (waiting_next l x)
@@ -60,15 +58,15 @@ write_keeps f o c w l h = rw (fifo-written f o c w) (go (eqb o 0x000 && bit 15 w
 -- ---- arrivals
 
 -- a frame arrives where the filters send it
-arrival-known : (f : Fifo) (a : Acceptance) (x : Frame) (time : ℕ) (locked : Bool) → arrival f a x time locked ≡ pick (goes_into f a) (arrives (stored_frame x (fmi_of a) time) locked) none
-arrival-known F0 (Into F0 n) x time locked = refl
-arrival-known F0 (Into F1 n) x time locked = refl
-arrival-known F1 (Into F0 n) x time locked = refl
-arrival-known F1 (Into F1 n) x time locked = refl
-arrival-known F0 Rejected x time locked = refl
-arrival-known F1 Rejected x time locked = refl
+arrival-known : (f : Fifo) (a : Option (Fifo × FilterNumber)) (x : Frame) (time : ℕ) (locked : Bool) → arrival f a x time locked ≡ pick (goes_into f a) (arrives (stored_frame x (fmi_of a) time) locked) none
+arrival-known F0 (Some (F0, n)) x time locked = refl
+arrival-known F0 (Some (F1, n)) x time locked = refl
+arrival-known F1 (Some (F0, n)) x time locked = refl
+arrival-known F1 (Some (F1, n)) x time locked = refl
+arrival-known F0 None x time locked = refl
+arrival-known F1 None x time locked = refl
 
-stored-keeps : (f : Fifo) (c : Core) (a : Acceptance) (x : Frame) (time : ℕ) → Keeps f c (stored_by c a x time) (arrival f a x time (rflm c.control))
+stored-keeps : (f : Fifo) (c : Core) (a : Option (Fifo × FilterNumber)) (x : Frame) (time : ℕ) → Keeps f c (stored_by c a x time) (arrival f a x time (rflm c.control))
 unfolding stored_by received
 stored-keeps F0 c a x time = λ l h. rw (arrival-known F0 a x time (rflm c.control)) (holds-received (goes_into F0 a) c.fifo0 l _ (rflm c.control) h)
 stored-keeps F1 c a x time = λ l h. rw (arrival-known F1 a x time (rflm c.control)) (holds-received (goes_into F1 a) c.fifo1 l _ (rflm c.control) h)
@@ -77,7 +75,7 @@ with_errors-fifo : (f : Fifo) (c : Core) (k : controls.Control) (e : Errors) →
 with_errors-fifo F0 c k e = refl
 with_errors-fifo F1 c k e = refl
 
-looped : (b : Bool) (f : Fifo) (a : Acceptance) (x : Frame) (time : ℕ) (locked : Bool) → pick b (arrival f a x time locked) none ≡ arrival f (pick b a Rejected) x time locked
+looped : (b : Bool) (f : Fifo) (a : Option (Fifo × FilterNumber)) (x : Frame) (time : ℕ) (locked : Bool) → pick b (arrival f a x time locked) none ≡ arrival f (pick b a None) x time locked
 looped true f a x time locked = refl
 looped false f a x time locked = refl
 
@@ -94,7 +92,7 @@ module _ (z : Controller) (i : InRange z) where
     abbrev x : MailboxState
     x = at z.core.transmit.mailboxes m
 
-    sent-known : (f : Fifo) (r : ℕ) → end_traffic f (From m) z r ≡ arrival f (looped_back z.core z.banks m r) (sent_frame x) (x.tdt / 65536) (rflm z.core.control)
+    sent-known : (f : Fifo) (r : ℕ) → end_traffic f (Some m) z r ≡ arrival f (looped_back z.core z.banks m r) (sent_frame x) (x.tdt / 65536) (rflm z.core.control)
     unfolding looped_back
     sent-known f r =
         (λ j. pick (eqb r 0 && bit 30 (btr-shown z j) && not (finit-read z j))
@@ -102,23 +100,23 @@ module _ (z : Controller) (i : InRange z) where
         none)
         ∙ looped (eqb r 0 && lbkm z.core.control && not z.core.filters.finit) f _ (sent_frame x) (x.tdt / 65536) (rflm z.core.control)
 
-    end_keeps : (f : Fifo) (r : ℕ) → Keeps f z.core (ended_by (From m) z.core z.banks r) (end_traffic f (From m) z r)
+    end_keeps : (f : Fifo) (r : ℕ) → Keeps f z.core (ended_by (Some m) z.core z.banks r) (end_traffic f (Some m) z r)
     unfolding ended_by
     end_keeps F0 r = λ l h. rw (sent-known F0 r) (stored-keeps F0 z.core (looped_back z.core z.banks m r) (sent_frame x) (x.tdt / 65536) l h)
     end_keeps F1 r = λ l h. rw (sent-known F1 r) (stored-keeps F1 z.core (looped_back z.core z.banks m r) (sent_frame x) (x.tdt / 65536) l h)
 
-  ends_keep : (f : Fifo) (v : Sender) (r : ℕ) → Keeps f z.core (ended_by v z.core z.banks r) (end_traffic f v z r)
+  ends_keep : (f : Fifo) (v : Option Mailbox) (r : ℕ) → Keeps f z.core (ended_by v z.core z.banks r) (end_traffic f v z r)
   unfolding ended_by
-  ends_keep f Nobody r = λ l h. h
-  ends_keep f (From m) r = end_keeps m f r
+  ends_keep f None r = λ l h. h
+  ends_keep f (Some m) r = end_keeps m f r
 
 -- ---- every step
 
-pub start-keeps : (f : Fifo) (v : Sender) (c : Core) → fifo_of f (started_by v c) ≡ fifo_of f c
+pub start-keeps : (f : Fifo) (v : Option Mailbox) (c : Core) → fifo_of f (started_by v c) ≡ fifo_of f c
 unfolding started_by
-start-keeps f Nobody c = refl
-start-keeps F0 (From m) c = refl
-start-keeps F1 (From m) c = refl
+start-keeps f None c = refl
+start-keeps F0 (Some m) c = refl
+start-keeps F1 (Some m) c = refl
 
 applied-keeps : (f : Fifo) (z : Controller) (s : steps.Step) → InRange z
     → Keeps f z.core (applied z.core z.banks s) (step_traffic f z.core.control.timer z.core.transmit.queue.transmitting z s)

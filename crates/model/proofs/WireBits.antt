@@ -1,4 +1,5 @@
 -- The definition of wire order agrees with the bits on the wire.
+use Rattle.std.proofs.Common.{ℕ}
 use mathlib.Core.Bool.{Bool, true, false, not, ◌&&◌, ◌||◌}
 use mathlib.Core.List.{List, [], ◌∷◌, ◌++◌}
 use mathlib.Core.Path.{◌≡◌, refl, sym, ap, ap₂, ◌∙◌}
@@ -15,10 +16,10 @@ use Rattle.model.specs.Mailboxes.{wire_key, identifier, key, before, sent_identi
 use Rattle.model.specs.Arbitration.{down_to, arbitration, wins, goes_before, WireOrder, SentIdentifier}
 use Rattle.model.specs.declared.Mailbox.{Mailbox}
 use Rattle.model.specs.declared.Mailbox.TheVariants.{M0, M1, M2}
-use Rattle.model.specs.declared.Identifiers.{Identifiers}
 use Rattle.base.proofs.Choices.{one-le}
 use Rattle.model.proofs.Digits.{for_digit}
 use Rattle.model.proofs.MaskedBits.{bit-low, bit_high, next_bit, no_bit}
+use Rattle.model.specs.declared.ByMailbox.{ByMailbox}
 
 -- ---- numbers of two digits compare by the first, then by the second
 
@@ -217,7 +218,7 @@ goes-key a b v w =
     ∙ tie (wire_key v) (wire_key w) (ltb (number a) (number b))
     ∙ sym (by_digits 4 (wire_key v) (number a) (wire_key w) (number b) (number_small a) (number_small b))
 
-pub wire-order : (i : Identifiers) (a b : Mailbox) → WireOrder i a b
+pub wire-order : (i : ByMailbox ℕ) (a b : Mailbox) → WireOrder i a b
 unfolding before key
 wire-order i a b = record { agrees = sym (goes-key a b (identifier i a) (identifier i b)) }
 

@@ -1,4 +1,5 @@
 -- The words of a mailbox read back; only a write to a word, a reset and, for TIME, a start change them.
+use Rattle.std.proofs.Common.{Option, Some, None}
 use mathlib.Core.Bool.{Bool, true, false, not, true≢false, false≢true, not-not}
 use mathlib.Core.List.{List}
 use mathlib.Core.Path.{◌≡◌, refl, sym, ap, subst, ◌∙◌}
@@ -17,11 +18,8 @@ use Rattle.model.specs.ReadBack.{Accepts, after_write, Within, sets}
 use Rattle.model.specs.MailboxWords.{MailboxWords, starts, MailboxStays}
 use Rattle.model.specs.declared.Mailbox.{Mailbox}
 use Rattle.model.specs.declared.Mailbox.TheVariants.{M0, M1, M2}
-use Rattle.model.specs.declared.Sender.{Sender}
-use Rattle.model.specs.declared.Sender.TheVariants.{Nobody, From}
 use Rattle.model.specs.declared.Fifo.TheVariants.{F0, F1}
 use Rattle.model.specs.declared.MailboxState.{MailboxState}
-use Rattle.model.specs.declared.Mailboxes.{Mailboxes}
 use Rattle.model.specs.declared.Core.{Core}
 use Rattle.model.specs.declared.Controller.{Controller}
 use Rattle.model.specs.declared.Register.{Register}
@@ -33,16 +31,17 @@ use Rattle.model.proofs.MaskedBits.{tdt-bits, next_bit}
 use Rattle.model.proofs.RegisterAccess.{write_core, elsewhere, step_keeps, Starts, start-accepted}
 use Rattle.model.proofs.StatusWord.{flags-shown}
 use Rattle.model.proofs.ShownWords.{ti-shown, tdt-shown, tdl-shown, tdh-shown}
+use Rattle.model.specs.declared.ByMailbox.{ByMailbox}
 
 -- ---- one of three
 
-pub put_there : (b : Mailboxes) (m : Mailbox) (y : MailboxState) → at (put b m y) m ≡ y
+pub put_there : (b : ByMailbox MailboxState) (m : Mailbox) (y : MailboxState) → at (put b m y) m ≡ y
 put_there b M0 y = refl
 put_there b M1 y = refl
 put_there b M2 y = refl
 
 -- what f shows of mailbox x is what it was, if that is so where x is the one that changed
-pub put-field : {A : Type 0} (f : MailboxState → A) (b : Mailboxes) (m : Mailbox) (y : MailboxState) (x : Mailbox) → (m ≡ x → f y ≡ f (at b m)) → f (at (put b m y) x) ≡ f (at b x)
+pub put-field : {A : Type 0} (f : MailboxState → A) (b : ByMailbox MailboxState) (m : Mailbox) (y : MailboxState) (x : Mailbox) → (m ≡ x → f y ≡ f (at b m)) → f (at (put b m y) x) ≡ f (at b x)
 put-field f b M0 y M0 h = h refl
 put-field f b M0 y M1 h = refl
 put-field f b M0 y M2 h = refl
@@ -81,7 +80,7 @@ txrq-read z m =
 -- the mailbox that was written, after the write
 box_written : (z : Controller) (m : Mailbox) (r : Register) (w : ℕ) (y : MailboxState) → (after_write z r w).core ≡ settled (written r z.core w)
     → (settled (written r z.core w)).transmit.mailboxes ≡ put z.core.transmit.mailboxes m y → at (after_write z r w).core.transmit.mailboxes m ≡ y
-box_written z m r w y e p = ap (λ (c : Core). at c.transmit.mailboxes m) e ∙ (ap (λ (b : Mailboxes). at b m) p ∙ put_there z.core.transmit.mailboxes m y)
+box_written z m r w y e p = ap (λ (c : Core). at c.transmit.mailboxes m) e ∙ (ap (λ (b : ByMailbox MailboxState). at b m) p ∙ put_there z.core.transmit.mailboxes m y)
 
 ti_written_lem : (z : Controller) (m : Mailbox) (w : ℕ) → Accepts z (Ti m) w → (at (after_write z (Ti m) w).core.transmit.mailboxes m).ti ≡ w / 2 * 2
 unfolding settled written requested_by ti_written
@@ -140,7 +139,7 @@ same : (s : steps.Step) (m : Mailbox) (x : MailboxState) → Left s m x x
 same s m x = left s m x x (record { ti = refl; tdt = refl; tdl = refl; tdh = refl })
 
 -- a mailbox is put back with other flags
-put-flags : (s : steps.Step) (b : Mailboxes) (k : Mailbox) (y : MailboxState) (m : Mailbox) → Unchanged (at b k) y → Left s m (at b m) (at (put b k y) m)
+put-flags : (s : steps.Step) (b : ByMailbox MailboxState) (k : Mailbox) (y : MailboxState) (m : Mailbox) → Unchanged (at b k) y → Left s m (at b m) (at (put b k y) m)
 put-flags s b k y m u = left s m _ _ (record {
   ti = put-field (λ x. x.ti) b k y m (λ _. u.ti);
   tdt = put-field (λ x. x.tdt) b k y m (λ _. u.tdt);
@@ -171,7 +170,7 @@ written_left Ier o c w m e = same (Write o w) m (box c m)
 written_left Esr o c w m e = same (Write o w) m (box c m)
 written_left Btr o c w m e = same (Write o w) m (box c m)
 written_left (Ti k) o c w m e =
-    let b : Mailboxes = c.transmit.mailboxes in
+    let b : (ByMailbox MailboxState) = c.transmit.mailboxes in
     record {
       ti = λ h. put-field (λ x. x.ti) b k _ m (another o k m Ti e refl h);
       tdt = λ _ _. put-field (λ x. x.tdt) b k _ m (λ _. refl);
@@ -180,7 +179,7 @@ written_left (Ti k) o c w m e =
       tdh = λ _. put-field (λ x. x.tdh) b k _ m (λ _. refl);
     }
 written_left (Tdt k) o c w m e =
-    let b : Mailboxes = c.transmit.mailboxes in
+    let b : (ByMailbox MailboxState) = c.transmit.mailboxes in
     record {
       ti = λ _. put-field (λ x. x.ti) b k _ m (λ _. refl);
       tdt = λ h _. put-field (λ x. x.tdt) b k _ m (another o k m Tdt e refl h);
@@ -189,7 +188,7 @@ written_left (Tdt k) o c w m e =
       tdh = λ _. put-field (λ x. x.tdh) b k _ m (λ _. refl);
     }
 written_left (Tdl k) o c w m e =
-    let b : Mailboxes = c.transmit.mailboxes in
+    let b : (ByMailbox MailboxState) = c.transmit.mailboxes in
     record {
       ti = λ _. put-field (λ x. x.ti) b k _ m (λ _. refl);
       tdt = λ _ _. put-field (λ x. x.tdt) b k _ m (λ _. refl);
@@ -198,7 +197,7 @@ written_left (Tdl k) o c w m e =
       tdh = λ _. put-field (λ x. x.tdh) b k _ m (λ _. refl);
     }
 written_left (Tdh k) o c w m e =
-    let b : Mailboxes = c.transmit.mailboxes in
+    let b : (ByMailbox MailboxState) = c.transmit.mailboxes in
     record {
       ti = λ _. put-field (λ x. x.ti) b k _ m (λ _. refl);
       tdt = λ _ _. put-field (λ x. x.tdt) b k _ m (λ _. refl);
@@ -225,11 +224,11 @@ tdt-kept o c w m h = (written_left (register_at o) o c w m refl).tdt h refl
 timed : (x t : ℕ) → (x % 65536 + t * 65536) % 65536 ≡ x % 65536
 timed x t = omega arith
 
-started_left : (v : Sender) (c : Core) (m : Mailbox) → Left Start m (box c m) (box (started_by v c) m)
+started_left : (v : Option Mailbox) (c : Core) (m : Mailbox) → Left Start m (box c m) (box (started_by v c) m)
 unfolding started_by started
-started_left Nobody c m = same Start m (box c m)
-started_left (From k) c m =
-    let b : Mailboxes = c.transmit.mailboxes in
+started_left None c m = same Start m (box c m)
+started_left (Some k) c m =
+    let b : (ByMailbox MailboxState) = c.transmit.mailboxes in
     record {
       ti = λ _. put-field (λ x. x.ti) b k _ m (λ _. refl);
       tdt = λ _ h. absurd (true≢false h);
@@ -238,10 +237,10 @@ started_left (From k) c m =
       tdh = λ _. put-field (λ x. x.tdh) b k _ m (λ _. refl);
     }
 
-ended_left : (n : ℕ) (x : Sender) (c : Core) (v : List ℕ) (m : Mailbox) → Left (Outcome n) m (box c m) (box (ended_by x c v n) m)
+ended_left : (n : ℕ) (x : Option Mailbox) (c : Core) (v : List ℕ) (m : Mailbox) → Left (Outcome n) m (box c m) (box (ended_by x c v n) m)
 unfolding ended_by ended outcome_flags
-ended_left n Nobody c v m = same (Outcome n) m (box c m)
-ended_left n (From k) c v m = put-flags (Outcome n) c.transmit.mailboxes k _ m (record { ti = refl; tdt = refl; tdl = refl; tdh = refl })
+ended_left n None c v m = same (Outcome n) m (box c m)
+ended_left n (Some k) c v m = put-flags (Outcome n) c.transmit.mailboxes k _ m (record { ti = refl; tdt = refl; tdl = refl; tdh = refl })
 
 applied_left : (s : steps.Step) (c : Core) (v : List ℕ) (m : Mailbox) → Left s m (box c m) (box (applied c v s) m)
 unfolding applied stored_by

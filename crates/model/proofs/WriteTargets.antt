@@ -1,4 +1,5 @@
 -- A write to the register at an offset: what it changes of the control words, the error counters, the FIFOs and the frame on the wire.
+use Rattle.std.proofs.Common.{Option, None}
 use mathlib.Core.Bool.{Bool, true, false, not, ◌&&◌, ◌||◌, false≢true, and_comm}
 use mathlib.Core.Path.{◌≡◌, refl, sym, ap, ◌∙◌}
 use Prim.Native.Nat.{ℕ, ◌+◌, ◌*◌}
@@ -13,8 +14,6 @@ use Rattle.model.specs.Control.{master_reset, mcr_written, msr_written, ier_writ
 use Rattle.model.specs.Registers.{register_at, control_register, is_absent, written, core_reset, fifo_of, with_control}
 use Rattle.model.specs.Codes.{offset_of}
 use Rattle.model.specs.Shown.{fifo_number}
-use Rattle.model.specs.declared.Sender.{Sender}
-use Rattle.model.specs.declared.Sender.TheVariants.{Nobody}
 use Rattle.model.specs.declared.Queue.{Queue}
 use Rattle.model.specs.declared.Fifo.{Fifo}
 use Rattle.model.specs.declared.Fifo.TheVariants.{F0, F1}
@@ -25,6 +24,7 @@ use Rattle.model.specs.declared.Register.TheVariants.{Mcr, Msr, Tsr, Rfr, Ier, E
 use Rattle.base.proofs.Choices.{pick_cases}
 use Rattle.model.proofs.Mapped.{map}
 use Rattle.model.proofs.QueueRanges.{aborted-wire}
+use Rattle.model.specs.declared.Mailbox.{Mailbox}
 
 -- ---- which of the first eight registers an offset names
 
@@ -280,14 +280,14 @@ fifo-written f o c w = rw (mcr-named o, rfr-named f o) (fifo_by f (register_at o
 
 -- ---- the frame on the wire
 
-abbrev wire : Core → Sender
+abbrev wire : Core → Option Mailbox
 wire c = c.transmit.queue.transmitting
 
-wire_by : (r : Register) (c : Core) (w : ℕ) → wire (written r c w) ≡ pick (eqb (place r) 0 && bit 15 w) Nobody (wire c)
+wire_by : (r : Register) (c : Core) (w : ℕ) → wire (written r c w) ≡ pick (eqb (place r) 0 && bit 15 w) None (wire c)
 unfolding written core_reset tsr_written aborted_all requested_by
 wire_by Mcr c w = go (bit 15 w)
   where
-    go : (b : Bool) → wire (pick b (core_reset c) (with_control c (mcr_written c.control w))) ≡ pick b Nobody (wire c)
+    go : (b : Bool) → wire (pick b (core_reset c) (with_control c (mcr_written c.control w))) ≡ pick b None (wire c)
     go true = refl
     go false = refl
 wire_by Msr c w = refl
@@ -314,5 +314,5 @@ wire_by (R1 b) c w = refl
 wire_by (R2 b) c w = refl
 wire_by Absent c w = refl
 
-pub wire-written : (o : ℕ) (c : Core) (w : ℕ) → wire (written (register_at o) c w) ≡ pick (eqb o 0x000 && bit 15 w) Nobody (wire c)
+pub wire-written : (o : ℕ) (c : Core) (w : ℕ) → wire (written (register_at o) c w) ≡ pick (eqb o 0x000 && bit 15 w) None (wire c)
 wire-written o c w = rw (mcr-named o) (wire_by (register_at o) c w)

@@ -8,9 +8,9 @@ use Rattle.model.specs.Step.{step}
 use Rattle.model.specs.Shown.{ti, txfp, next_of}
 use Rattle.model.specs.ReadBack.{has}
 use Rattle.model.specs.declared.Mailbox.{Mailbox}
-use Rattle.model.specs.declared.Identifiers.{Identifiers}
 use Rattle.model.specs.declared.Controller.{Controller}
 use Rattle.model.specs.declared.Step.TheVariants.{Start}
+use Rattle.model.specs.declared.ByMailbox.{ByMailbox}
 
 -- ---- the bits on the wire
 
@@ -41,7 +41,7 @@ abbrev pub goes_before : Mailbox → ℕ → Mailbox → ℕ → Bool
 goes_before a v b w = wins (arbitration v) (arbitration w) || (not (wins (arbitration w) (arbitration v)) && ltb (number a) (number b))
 
 -- the definition `before` orders as the bits do
-pub record WireOrder (i : Identifiers) (a b : Mailbox) : Type 0 where
+pub record WireOrder (i : ByMailbox ℕ) (a b : Mailbox) : Type 0 where
   pub agrees : before i a b ≡ goes_before a (identifier i a) b (identifier i b)
 
 -- "EXID of a standard mailbox is ignored and sent as 0"
@@ -83,12 +83,12 @@ pub record IsLast (z : Controller) (m : Mailbox) : Type 0 where
   pub behind : (x : Mailbox) → is_pending z x ≡ true → eqb (number x) (number m) ≡ false → precedes z x m ≡ true
 
 -- P holds of some mailbox
-pub record Some (P : Mailbox → Type 0) : Type 0 where
+pub record SomeMailbox (P : Mailbox → Type 0) : Type 0 where
   pub mailbox : Mailbox
   pub meets : P mailbox
 
 -- an accepted start: "The first in priority goes on the wire .. the word is its number"; its request stays in its place
 pub record StartsFirst (z : Controller) : Type 0 where
-  pub word : Some (λ m. ((step z Start).word ≡ number m) × IsFirst z m)
+  pub word : SomeMailbox (λ m. ((step z Start).word ≡ number m) × IsFirst z m)
   pub wire : on_wire (next_of z Start) ≡ (step z Start).word ∷ []
   pub kept : requests (next_of z Start) ≡ requests z

@@ -1,6 +1,6 @@
 -- Demand 3 of the bench, as one claim about a whole list of steps; and its counterpart under lowest-identifier order.
 -- Document 01: "Request book", "How far each contract reaches".
-use Rattle.std.specs.Prelude.{Bool, true, false, not, ◌&&◌, List, [], ◌∷◌, ◌++◌, ◌≡◌, ℕ, ◌+◌, ◌≤◌}
+use Rattle.std.specs.Prelude.{Bool, true, false, not, ◌&&◌, List, [], ◌∷◌, ◌++◌, ◌≡◌, ℕ, ◌+◌, ◌≤◌, Option, Some, None}
 use Rattle.base.specs.Base.{pick, one}
 use Rattle.model.specs.Queue.{flag, same}
 use Rattle.model.specs.Registers.{reset}
@@ -9,8 +9,6 @@ use Rattle.model.specs.Shown.{tme, Done}
 use Rattle.model.specs.Requests.{Entry, Event, nothing, drops, modes, accepts, aborts, starts, ends, event, entry, Requests, none_yet, next, requests_after, ends_too, after, entries}
 use Rattle.model.specs.declared.Mailbox.{Mailbox}
 use Rattle.model.specs.declared.Mailbox.TheVariants.{M0}
-use Rattle.model.specs.declared.Sender.{Sender}
-use Rattle.model.specs.declared.Sender.TheVariants.{Nobody, From}
 use Rattle.model.specs.declared.Controller.{Controller}
 use Rattle.model.specs.declared.Step as steps
 use Rattle.model.specs.declared.Step.TheVariants.{Read}
@@ -57,9 +55,9 @@ abbrev pub under_request_order : Moment → Bool
 under_request_order x = in_order x.event x.requests.txfp
 
 -- the request of a mailbox other than m ends on the wire
-abbrev pub other_on : Mailbox → Sender → Requests → Bool → Bool
-other_on m Nobody b good = false
-other_on m (From x) b good = not (same x m) && ends_too b x good
+abbrev pub other_on : Mailbox → Option Mailbox → Requests → Bool → Bool
+other_on m None b good = false
+other_on m (Some x) b good = not (same x m) && ends_too b x good
 
 abbrev pub other_end : Mailbox → Event → Requests → Bool
 other_end m nothing b = false

@@ -1,7 +1,7 @@
 -- The two FIFOs, of what registers show.
 -- Document 01: "Order, filters, storage" (storage), "Bus events" (own end, frame), "Register map" (RFxR, FIFO output, MCR with bit 15).
 -- Which filter takes a frame is `acceptance`.
-use Rattle.std.specs.Prelude.{Bool, true, false, not, ◌&&◌, ◌||◌, ◌≡◌, ℕ, ◌+◌, ◌*◌, ◌-◌, ◌^◌, ◌<◌, min, eqb, ltb}
+use Rattle.std.specs.Prelude.{Bool, true, false, not, ◌&&◌, ◌||◌, ◌≡◌, ℕ, ◌+◌, ◌*◌, ◌-◌, ◌^◌, ◌<◌, min, eqb, ltb, Option, Some, None}
 use Rattle.base.specs.Base.{pick, bit, bits, one}
 use Rattle.model.specs.Mailboxes.{at}
 use Rattle.model.specs.Search.{acceptance}
@@ -9,13 +9,10 @@ use Rattle.model.specs.Reception.{sent_frame}
 use Rattle.model.specs.Registers.{bank_count, fifo_of}
 use Rattle.model.specs.Shown.{rfr, ri, rdt, rdl, rdh, ti, tdt, tdl, tdh, fmp, full, fovr, lbkm, finit, timer, Done, next_of, resets, fifo_number}
 use Rattle.model.specs.declared.Mailbox.{Mailbox}
-use Rattle.model.specs.declared.Sender.TheVariants.{From}
 use Rattle.model.specs.declared.Fifo.{Fifo}
 use Rattle.model.specs.declared.Fifo.TheVariants.{F0, F1}
 use Rattle.model.specs.declared.Frame.{Frame}
 use Rattle.model.specs.declared.FilterNumber.{FilterNumber}
-use Rattle.model.specs.declared.Acceptance.{Acceptance}
-use Rattle.model.specs.declared.Acceptance.TheVariants.{Into, Rejected}
 use Rattle.model.specs.declared.Controller.{Controller}
 use Rattle.model.specs.declared.Step as steps
 use Rattle.model.specs.declared.Step.TheVariants.{Reset, Read, Write, Idle, BitTimes, Activity, Start, Outcome, Receive, ReceiveError}
@@ -74,9 +71,9 @@ pub record Stored (f : Fifo) (z y : Controller) (x : Frame) (n : FilterNumber) (
   -- and into no other
   pub alone : Kept (other f) z y
 
-abbrev pub Passed : Acceptance → Controller → Controller → Frame → ℕ → Type 0
-Passed (Into f n) z y x time = Stored f z y x n time
-Passed Rejected z y x time = (f : Fifo) → Kept f z y
+abbrev pub Passed : Option (Fifo × FilterNumber) → Controller → Controller → Frame → ℕ → Type 0
+Passed (Some (f, n)) z y x time = Stored f z y x n time
+Passed None z y x time = (f : Fifo) → Kept f z y
 
 -- ---- loopback
 
@@ -102,7 +99,7 @@ is_looped z = lbkm z && not (finit z)
 
 -- an own end: in loopback a good frame passes the filters too, with the mailbox's TIME
 pub record EndRule (z : Controller) (r : ℕ) (y : Controller) : Type 0 where
-  pub loops : (m : Mailbox) → z.core.transmit.queue.transmitting ≡ From m → eqb r 0 && is_looped z ≡ true
+  pub loops : (m : Mailbox) → z.core.transmit.queue.transmitting ≡ Some m → eqb r 0 && is_looped z ≡ true
       → Passed (acceptance bank_count z.core.filters z.banks (sent z m).identifier) z y (sent z m) (bits 16 16 (tdt m z))
   pub otherwise : eqb r 0 && is_looped z ≡ false → (f : Fifo) → Kept f z y
 

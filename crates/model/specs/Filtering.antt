@@ -1,7 +1,7 @@
 -- What document 01, "Order, filters, storage", says of the filters: the bits that they look at, the words that they take, their order and
 -- numbers, which filter a frame passes, and what the registers show of them. "Register map": the banks' words read back.
 -- n is the number of banks, v their words R1 and R2 in turn, w a frame's identifier word.
-use Rattle.std.specs.Prelude.{Bool, true, false, List, [], ◌∷◌, ◌⊎◌, ◌↔◌, ◌≡◌, ℕ, ◌+◌, ◌*◌, ◌^◌, ◌≤◌, ◌<◌}
+use Rattle.std.specs.Prelude.{Bool, true, false, List, [], ◌∷◌, ◌⊎◌, ◌↔◌, ◌≡◌, ℕ, ◌+◌, ◌*◌, ◌^◌, ◌≤◌, ◌<◌, Option, Some, None}
 use Rattle.base.specs.Base.{bit, bits}
 use Rattle.model.specs.Banks.{bank, first_word, second_word, is_active, class_of, rank, width, short_word, matches, belongs, first_number, number_of, banks_below, four_counts}
 use Rattle.model.specs.Search.{first_hit, acceptance}
@@ -16,10 +16,6 @@ use Rattle.model.specs.declared.FilterNumber.{FilterNumber}
 use Rattle.model.specs.declared.FilterClass.{FilterClass}
 use Rattle.model.specs.declared.FilterClass.TheVariants.{List32, Mask32, List16, Mask16}
 use Rattle.model.specs.declared.Fifo.{Fifo}
-use Rattle.model.specs.declared.Hit.{Hit}
-use Rattle.model.specs.declared.Hit.TheVariants.{Filter, Nothing}
-use Rattle.model.specs.declared.Acceptance.{Acceptance}
-use Rattle.model.specs.declared.Acceptance.TheVariants.{Into, Rejected}
 use Rattle.model.specs.declared.Frame.{Frame}
 use Rattle.model.specs.declared.MailboxState.{MailboxState}
 use Rattle.model.specs.declared.Register.{Register}
@@ -43,14 +39,14 @@ mode_bit List16 = true
 mode_bit Mask16 = false
 
 -- the first match: its filter number, if there is one
-abbrev pub hit_numbers : Hit → List ℕ
-hit_numbers (Filter x) = x.0 ∷ []
-hit_numbers Nothing = []
+abbrev pub hit_numbers : Option FilterNumber → List ℕ
+hit_numbers (Some x) = x.0 ∷ []
+hit_numbers None = []
 
 -- where a frame goes: the numbers of the FIFO and of the filter, if it goes anywhere
-abbrev pub acceptance_numbers : Acceptance → List ℕ
-acceptance_numbers (Into f x) = fifo_number f ∷ x.0 ∷ []
-acceptance_numbers Rejected = []
+abbrev pub acceptance_numbers : Option (Fifo × FilterNumber) → List ℕ
+acceptance_numbers (Some (f, x)) = fifo_number f ∷ x.0 ∷ []
+acceptance_numbers None = []
 
 -- ---- classes
 

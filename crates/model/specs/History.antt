@@ -1,7 +1,7 @@
 -- What a FIFO holds, the timer and TIME, the error counters and the recovery count, worked out from the history of steps: from the
 -- steps, their codes, a start's word and what registers read before and after a step. No field of the state goes in.
 -- Document 01: "How far each contract reaches" (FMP, TEC and idle counts are tied to stored frames and events).
-use Rattle.std.specs.Prelude.{Bool, false, not, ◌&&◌, ◌||◌, List, [], ◌∷◌, ◌++◌, ◌≡◌, ℕ, zero, suc, ◌+◌, ◌-◌, ◌*◌, ◌/◌, ◌%◌, eqb, ltb, length, take}
+use Rattle.std.specs.Prelude.{Bool, false, not, ◌&&◌, ◌||◌, List, [], ◌∷◌, ◌++◌, ◌≡◌, ℕ, zero, suc, ◌+◌, ◌-◌, ◌*◌, ◌/◌, ◌%◌, eqb, ltb, length, take, Option, Some, None}
 use Rattle.base.specs.Base.{pick, bit, bits}
 use Rattle.model.specs.Queue.{number}
 use Rattle.model.specs.Mailboxes.{sent_identifier}
@@ -12,17 +12,14 @@ use Rattle.model.specs.Step.{step}
 use Rattle.model.specs.Requests.{Requests, none_yet, next, event, entry, after}
 use Rattle.model.specs.Shown.{shown, esr, fm1r, fs1r, ffa1r, fa1r, ri, rdt, rdl, rdh, ti, tdt, tdl, tdh, rflm, abom, ttcm, inak, in_normal, fmp, boff, lec, rec, lbkm, finit, tec, timer, is_done, next_of, result_code, bit_times, resets, fifo_number}
 use Rattle.model.specs.declared.Mailbox.{Mailbox}
-use Rattle.model.specs.declared.Sender.{Sender}
-use Rattle.model.specs.declared.Sender.TheVariants.{Nobody, From}
 use Rattle.model.specs.declared.Fifo.{Fifo}
 use Rattle.model.specs.declared.StoredFrame.{StoredFrame}
 use Rattle.model.specs.declared.Frame.{Frame}
 use Rattle.model.specs.declared.Filters.{Filters}
-use Rattle.model.specs.declared.Acceptance.{Acceptance}
-use Rattle.model.specs.declared.Acceptance.TheVariants.{Into, Rejected}
 use Rattle.model.specs.declared.Controller.{Controller}
 use Rattle.model.specs.declared.Step as steps
 use Rattle.model.specs.declared.Step.TheVariants.{Reset, Read, Write, Idle, BitTimes, Activity, Start, Outcome, Receive, ReceiveError}
+use Rattle.model.specs.declared.FilterNumber.{FilterNumber}
 
 -- the words of n registers from an offset on
 unfoldable pub words_from : Controller → ℕ → ℕ → List ℕ
@@ -67,7 +64,7 @@ time_from m x t z (s ∷ l) = time_from m (time_next m x t z s) (timer_next t z 
 abbrev pub filters_shown : Controller → Filters
 filters_shown z = record { mode = fm1r z; scale = fs1r z; assignment = ffa1r z; activation = fa1r z; finit = finit z }
 
-abbrev pub filtered : Controller → ℕ → Acceptance
+abbrev pub filtered : Controller → ℕ → Option (Fifo × FilterNumber)
 filtered z w = acceptance bank_count (filters_shown z) (words_from z 0x240 (2 * bank_count)) w
 
 -- what mailbox m sends: TI without TXRQ, TDT, TDL, TDH
@@ -90,24 +87,24 @@ abbrev pub same_fifo : Fifo → Fifo → Bool
 same_fifo f g = eqb (fifo_number f) (fifo_number g)
 
 -- a frame arrives where the filters send it, and nowhere else
-abbrev pub arrival : Fifo → Acceptance → Frame → ℕ → Bool → Traffic
-arrival f (Into g n) x time locked = pick (same_fifo f g) (arrives (stored_frame x n time) locked) none
-arrival f Rejected x time locked = none
+abbrev pub arrival : Fifo → Option (Fifo × FilterNumber) → Frame → ℕ → Bool → Traffic
+arrival f (Some (g, n)) x time locked = pick (same_fifo f g) (arrives (stored_frame x n time) locked) none
+arrival f None x time locked = none
 
 -- MCR with bit 15 set; RFxR with RFOM
 abbrev pub write_traffic : Fifo → ℕ → ℕ → Traffic
 write_traffic f o w = pick (resets (Write o w)) empties (pick (eqb o (0x00C + 4 * fifo_number f) && bit 5 w) releases none)
 
 -- a good end with LBKM=1 and FINIT=0: the frame of the mailbox on the wire arrives, with the mailbox's TIME
-abbrev pub end_traffic : Fifo → Sender → Controller → ℕ → Traffic
-end_traffic f Nobody z r = none
-end_traffic f (From m) z r =
+abbrev pub end_traffic : Fifo → Option Mailbox → Controller → ℕ → Traffic
+end_traffic f None z r = none
+end_traffic f (Some m) z r =
     pick (eqb r 0 && lbkm z && not (finit z))
     (arrival f (filtered z (frame_in z m).identifier) (frame_in z m) (tdt m z / 65536) (rflm z))
     none
 
 -- t: the timer; v: the mailbox on the wire
-abbrev pub step_traffic : Fifo → ℕ → Sender → Controller → steps.Step → Traffic
+abbrev pub step_traffic : Fifo → ℕ → Option Mailbox → Controller → steps.Step → Traffic
 step_traffic f t v z Reset = empties
 step_traffic f t v z (Read o) = none
 step_traffic f t v z (Write o w) = write_traffic f o w
@@ -119,7 +116,7 @@ step_traffic f t v z (Outcome r) = end_traffic f v z r
 step_traffic f t v z (Receive x) = arrival f (filtered z x.identifier) x t (rflm z)
 step_traffic f t v z (ReceiveError k n) = none
 
-abbrev pub traffic : Fifo → ℕ → Sender → Controller → steps.Step → Traffic
+abbrev pub traffic : Fifo → ℕ → Option Mailbox → Controller → steps.Step → Traffic
 traffic f t v z s = pick (is_done z s) (step_traffic f t v z s) none
 
 -- a release drops the oldest; a fourth frame replaces the newest, or is dropped with RFLM=1

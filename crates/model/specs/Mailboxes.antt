@@ -1,29 +1,25 @@
 -- The transmit mailboxes: their words and flags, their priority, TSR.
 -- Document 01: "Register map" (TI, TDT, TSR, CODE, LOW), "Bus events" (start, own end), "Order, filters, storage" (order).
-use Rattle.std.specs.Prelude.{Bool, false, not, ◌&&◌, ◌||◌, ℕ, ◌+◌, ◌*◌, ◌/◌, ◌%◌, ◌^◌, eqb, ltb}
+use Rattle.std.specs.Prelude.{Bool, false, not, ◌&&◌, ◌||◌, ℕ, ◌+◌, ◌*◌, ◌/◌, ◌%◌, ◌^◌, eqb, ltb, Option, Some, None}
 use Rattle.base.specs.Base.{pick, bit, bits, one}
 use Rattle.model.specs.Queue.{number, flag, holds, oldest, newest, is_from, besides, sender_number, two_or_more, requested, aborted_all, sending, off_wire, no_requests}
 use Rattle.model.specs.declared.Mailbox.{Mailbox}
 use Rattle.model.specs.declared.Mailbox.TheVariants.{M0, M1, M2}
-use Rattle.model.specs.declared.Sender.{Sender}
-use Rattle.model.specs.declared.Sender.TheVariants.{Nobody, From}
 use Rattle.model.specs.declared.RequestOrder.{RequestOrder}
 use Rattle.model.specs.declared.RequestOrder.TheVariants.{Empty, One, Two, Three}
-use Rattle.model.specs.declared.MailboxBits.{MailboxBits}
 use Rattle.model.specs.declared.Queue.{Queue}
 use Rattle.model.specs.declared.MailboxState.{MailboxState}
-use Rattle.model.specs.declared.Mailboxes.{Mailboxes}
 use Rattle.model.specs.declared.Transmit.{Transmit}
-use Rattle.model.specs.declared.Identifiers.{Identifiers}
+use Rattle.model.specs.declared.ByMailbox.{ByMailbox}
 
 -- ---- one of three
 
-abbrev pub at : Mailboxes → Mailbox → MailboxState
+abbrev pub at : ByMailbox MailboxState → Mailbox → MailboxState
 at b M0 = b.m0
 at b M1 = b.m1
 at b M2 = b.m2
 
-abbrev pub put : Mailboxes → Mailbox → MailboxState → Mailboxes
+abbrev pub put : ByMailbox MailboxState → Mailbox → MailboxState → ByMailbox MailboxState
 put b M0 x = record { m0 = x; m1 = b.m1; m2 = b.m2 }
 put b M1 x = record { m0 = b.m0; m1 = x; m2 = b.m2 }
 put b M2 x = record { m0 = b.m0; m1 = b.m1; m2 = x }
@@ -84,7 +80,7 @@ completed x b = with_flags x (x.rqcp || b) (x.txok && not b) x.alst x.terr
 abbrev pub aborts_pending : Queue → Mailbox → Bool → Bool
 aborts_pending q m b = b && holds q.order m && not (is_from q.transmitting m)
 
-abbrev pub abrq : ℕ → MailboxBits
+abbrev pub abrq : ℕ → ByMailbox Bool
 abrq w = record { m0 = bit 7 w; m1 = bit 15 w; m2 = bit 23 w }
 
 -- TSR: the clears, then the aborts
@@ -116,52 +112,52 @@ wire_key ti =
     (bits 21 11 ti * 2 ^ 21 + 2 ^ 20 + bits 3 18 ti * 2 + bits 1 1 ti)
     (bits 21 11 ti * 2 ^ 21 + bits 1 1 ti * 2 ^ 19)
 
-abbrev pub identifiers : Mailboxes → Identifiers
+abbrev pub identifiers : ByMailbox MailboxState → ByMailbox ℕ
 identifiers b = record { m0 = b.m0.ti; m1 = b.m1.ti; m2 = b.m2.ti }
 
-abbrev pub identifier : Identifiers → Mailbox → ℕ
+abbrev pub identifier : ByMailbox ℕ → Mailbox → ℕ
 identifier i M0 = i.m0
 identifier i M1 = i.m1
 identifier i M2 = i.m2
 
 -- equal bits: the lower mailbox
-unfoldable pub key : Identifiers → Mailbox → ℕ
+unfoldable pub key : ByMailbox ℕ → Mailbox → ℕ
 key i m = wire_key (identifier i m) * 4 + number m
 
-unfoldable pub before : Identifiers → Mailbox → Mailbox → Bool
+unfoldable pub before : ByMailbox ℕ → Mailbox → Mailbox → Bool
 before i a b = ltb (key i a) (key i b)
 
-unfoldable pub sooner : Identifiers → Mailbox → Mailbox → Mailbox
+unfoldable pub sooner : ByMailbox ℕ → Mailbox → Mailbox → Mailbox
 sooner i a b = pick (before i a b) a b
 
-unfoldable pub later : Identifiers → Mailbox → Mailbox → Mailbox
+unfoldable pub later : ByMailbox ℕ → Mailbox → Mailbox → Mailbox
 later i a b = pick (before i a b) b a
 
 -- first and last in wire order
-unfoldable pub first_in_wire_order : Identifiers → RequestOrder → Sender
-first_in_wire_order i Empty = Nobody
-first_in_wire_order i (One a) = From a
-first_in_wire_order i (Two a b) = From (sooner i a b)
-first_in_wire_order i (Three a b c) = From (sooner i (sooner i a b) c)
+unfoldable pub first_in_wire_order : ByMailbox ℕ → RequestOrder → Option Mailbox
+first_in_wire_order i Empty = None
+first_in_wire_order i (One a) = Some a
+first_in_wire_order i (Two a b) = Some (sooner i a b)
+first_in_wire_order i (Three a b c) = Some (sooner i (sooner i a b) c)
 
-unfoldable pub last_in_wire_order : Identifiers → RequestOrder → Sender
-last_in_wire_order i Empty = Nobody
-last_in_wire_order i (One a) = From a
-last_in_wire_order i (Two a b) = From (later i a b)
-last_in_wire_order i (Three a b c) = From (later i (later i a b) c)
+unfoldable pub last_in_wire_order : ByMailbox ℕ → RequestOrder → Option Mailbox
+last_in_wire_order i Empty = None
+last_in_wire_order i (One a) = Some a
+last_in_wire_order i (Two a b) = Some (later i a b)
+last_in_wire_order i (Three a b c) = Some (later i (later i a b) c)
 
 -- first and last in priority: request order if TXFP=1, else the bits on the wire
-unfoldable pub first : Bool → Identifiers → RequestOrder → Sender
+unfoldable pub first : Bool → ByMailbox ℕ → RequestOrder → Option Mailbox
 first txfp i o = pick txfp (oldest o) (first_in_wire_order i o)
 
-unfoldable pub last : Bool → Identifiers → RequestOrder → Sender
+unfoldable pub last : Bool → ByMailbox ℕ → RequestOrder → Option Mailbox
 last txfp i o = pick txfp (newest o) (last_in_wire_order i o)
 
-abbrev pub first_of : Bool → Transmit → Sender
+abbrev pub first_of : Bool → Transmit → Option Mailbox
 first_of txfp t = first txfp (identifiers t.mailboxes) t.queue.order
 
 -- the one on the wire stands first, so it is not the last where another waits
-abbrev pub last_of : Bool → Transmit → Sender
+abbrev pub last_of : Bool → Transmit → Option Mailbox
 last_of txfp t = last txfp (identifiers t.mailboxes) (besides t.queue.transmitting t.queue.order)
 
 -- ---- the word TSR ("Register map"; bit places of 000)

@@ -1,16 +1,14 @@
 -- The requests of the three mailboxes: their order, the mailbox that is transmitting, the remembered aborts.
 -- Document 01: "Register map" (TSR, TI with TXRQ), "Bus events" (start, own end). 01 says "on the wire" for transmitting,
 -- "own end" for the outcome of a transmission, "request order" for the order.
-use Rattle.std.specs.Prelude.{Bool, true, false, ◌&&◌, ◌||◌, List, [], ◌∷◌, ℕ, eqb}
+use Rattle.std.specs.Prelude.{Bool, true, false, ◌&&◌, ◌||◌, List, [], ◌∷◌, ℕ, eqb, Option, Some, None}
 use Rattle.base.specs.Base.{pick}
 use Rattle.model.specs.declared.Mailbox.{Mailbox}
 use Rattle.model.specs.declared.Mailbox.TheVariants.{M0, M1, M2}
-use Rattle.model.specs.declared.Sender.{Sender}
-use Rattle.model.specs.declared.Sender.TheVariants.{Nobody, From}
 use Rattle.model.specs.declared.RequestOrder.{RequestOrder}
 use Rattle.model.specs.declared.RequestOrder.TheVariants.{Empty, One, Two, Three}
-use Rattle.model.specs.declared.MailboxBits.{MailboxBits}
 use Rattle.model.specs.declared.Queue.{Queue}
+use Rattle.model.specs.declared.ByMailbox.{ByMailbox}
 
 -- ---- mailboxes and their numbers
 
@@ -33,17 +31,17 @@ same M2 M0 = false
 same M2 M1 = false
 same M2 M2 = true
 
-abbrev pub flag : MailboxBits → Mailbox → Bool
+abbrev pub flag : ByMailbox Bool → Mailbox → Bool
 flag f M0 = f.m0
 flag f M1 = f.m1
 flag f M2 = f.m2
 
-abbrev pub flagged : MailboxBits → Mailbox → Bool → MailboxBits
+abbrev pub flagged : ByMailbox Bool → Mailbox → Bool → ByMailbox Bool
 flagged f M0 b = record { m0 = b; m1 = f.m1; m2 = f.m2 }
 flagged f M1 b = record { m0 = f.m0; m1 = b; m2 = f.m2 }
 flagged f M2 b = record { m0 = f.m0; m1 = f.m1; m2 = b }
 
-abbrev pub no_flags : MailboxBits
+abbrev pub no_flags : ByMailbox Bool
 no_flags = record { m0 = false; m1 = false; m2 = false }
 
 -- ---- the order of requests
@@ -68,17 +66,17 @@ without (One a) m = pick (same a m) Empty (One a)
 without (Two a b) m = pick (same a m) (One b) (pick (same b m) (One a) (Two a b))
 without (Three a b c) m = pick (same a m) (Two b c) (pick (same b m) (Two a c) (pick (same c m) (Two a b) (Three a b c)))
 
-abbrev pub oldest : RequestOrder → Sender
-oldest Empty = Nobody
-oldest (One a) = From a
-oldest (Two a b) = From a
-oldest (Three a b c) = From a
+abbrev pub oldest : RequestOrder → Option Mailbox
+oldest Empty = None
+oldest (One a) = Some a
+oldest (Two a b) = Some a
+oldest (Three a b c) = Some a
 
-abbrev pub newest : RequestOrder → Sender
-newest Empty = Nobody
-newest (One a) = From a
-newest (Two a b) = From b
-newest (Three a b c) = From c
+abbrev pub newest : RequestOrder → Option Mailbox
+newest Empty = None
+newest (One a) = Some a
+newest (Two a b) = Some b
+newest (Three a b c) = Some c
 
 abbrev pub is_empty : RequestOrder → Bool
 is_empty Empty = true
@@ -102,33 +100,33 @@ two_or_more (Three a b c) = true
 
 -- ---- the mailbox that is transmitting
 
-abbrev pub is_from : Sender → Mailbox → Bool
-is_from Nobody m = false
-is_from (From a) m = same a m
+abbrev pub is_from : Option Mailbox → Mailbox → Bool
+is_from None m = false
+is_from (Some a) m = same a m
 
-abbrev pub is_nobody : Sender → Bool
-is_nobody Nobody = true
-is_nobody (From a) = false
+abbrev pub is_nobody : Option Mailbox → Bool
+is_nobody None = true
+is_nobody (Some a) = false
 
 -- the number of a mailbox; 0 where there is none
-abbrev pub sender_number : Sender → ℕ
-sender_number Nobody = 0
-sender_number (From m) = number m
+abbrev pub sender_number : Option Mailbox → ℕ
+sender_number None = 0
+sender_number (Some m) = number m
 
 -- the number of a mailbox, if there is one; it tells nobody apart from mailbox 0
-abbrev pub sender_numbers : Sender → List ℕ
-sender_numbers Nobody = []
-sender_numbers (From m) = number m ∷ []
+abbrev pub sender_numbers : Option Mailbox → List ℕ
+sender_numbers None = []
+sender_numbers (Some m) = number m ∷ []
 
 -- the order without the mailbox that is transmitting
-abbrev pub besides : Sender → RequestOrder → RequestOrder
-besides Nobody o = o
-besides (From m) o = without o m
+abbrev pub besides : Option Mailbox → RequestOrder → RequestOrder
+besides None o = o
+besides (Some m) o = without o m
 
 -- ---- what happens to requests
 
 abbrev pub no_requests : Queue
-no_requests = record { order = Empty; transmitting = Nobody; aborts = no_flags }
+no_requests = record { order = Empty; transmitting = None; aborts = no_flags }
 
 -- TI with TXRQ
 abbrev pub requested : Queue → Mailbox → Queue
@@ -145,15 +143,15 @@ remembered q m = record { order = q.order; transmitting = q.transmitting; aborts
 unfoldable pub aborted : Bool → Queue → Mailbox → Queue
 aborted b q m = pick (b && holds q.order m) (pick (is_from q.transmitting m) (remembered q m) (emptied q m)) q
 
-unfoldable pub aborted_all : Queue → MailboxBits → Queue
+unfoldable pub aborted_all : Queue → ByMailbox Bool → Queue
 aborted_all q f = aborted f.m2 (aborted f.m1 (aborted f.m0 q M0) M1) M2
 
 -- a start
 abbrev pub sending : Queue → Mailbox → Queue
-sending q m = record { order = q.order; transmitting = From m; aborts = q.aborts }
+sending q m = record { order = q.order; transmitting = Some m; aborts = q.aborts }
 
 abbrev pub freed : Queue → Queue
-freed q = record { order = q.order; transmitting = Nobody; aborts = q.aborts }
+freed q = record { order = q.order; transmitting = None; aborts = q.aborts }
 
 -- the transmission ends; over: the request too, else it is pending in its old place
 unfoldable pub off_wire : Queue → Mailbox → Bool → Queue

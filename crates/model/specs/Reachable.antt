@@ -1,7 +1,7 @@
 -- What holds of every state that steps reach from hardware reset or from a loaded block: the range of each field, and how fields go
 -- together. Each word holds only the bits that its mask lets through. Document 01 does not list these ranges; they follow from its rules,
 -- and are the listed ranges of document 02, Q-2 (docs/BLOCK.md).
-use Rattle.std.specs.Prelude.{Bool, true, false, not, ◌&&◌, List, [], ◌∷◌, ◌≡◌, ℕ, ◌+◌, ◌*◌, ◌-◌, ◌/◌, ◌%◌, ◌^◌, ◌<◌, ◌≤◌, length}
+use Rattle.std.specs.Prelude.{Bool, true, false, not, ◌&&◌, List, [], ◌∷◌, ◌≡◌, ℕ, ◌+◌, ◌*◌, ◌-◌, ◌/◌, ◌%◌, ◌^◌, ◌<◌, ◌≤◌, length, Option, Some, None}
 use Rattle.base.specs.Base.{bit, bits, one}
 use Rattle.model.specs.Queue.{same, flag, holds, is_from}
 use Rattle.model.specs.Mailboxes.{at, tdt_masked}
@@ -9,8 +9,6 @@ use Rattle.model.specs.Reception.{data_bytes, bytes_kept, no_frame}
 use Rattle.model.specs.Control.{inrq, sleep, ttcm, lbkm, silm, mode_next, is_sleep, is_initialization, is_normal, boff, mcr_masked, ier_masked, btr_masked}
 use Rattle.model.specs.Registers.{bank_count, filter_masked, is_free}
 use Rattle.model.specs.declared.Mailbox.{Mailbox}
-use Rattle.model.specs.declared.Sender.{Sender}
-use Rattle.model.specs.declared.Sender.TheVariants.{Nobody, From}
 use Rattle.model.specs.declared.RequestOrder.{RequestOrder}
 use Rattle.model.specs.declared.RequestOrder.TheVariants.{Empty, One, Two, Three}
 use Rattle.model.specs.declared.Queue.{Queue}
@@ -37,9 +35,9 @@ distinct (Two a b) = not (same a b)
 distinct (Three a b c) = not (same a b) && not (same a c) && not (same b c)
 
 -- the one on the wire has a request
-abbrev pub carried : Sender → RequestOrder → Bool
-carried Nobody o = true
-carried (From m) o = holds o m
+abbrev pub carried : Option Mailbox → RequestOrder → Bool
+carried None o = true
+carried (Some m) o = holds o m
 
 pub record QueueRange (q : Queue) : Type 0 where
   pub once : distinct q.order ≡ true

@@ -1,6 +1,6 @@
 -- Frames and the two FIFOs of three.
 -- Document 01: "Bus events" (frame), "Order, filters, storage" (storage), "Register map" (RFxR, FIFO output).
-use Rattle.std.specs.Prelude.{Bool, true, false, not, ◌&&◌, ◌||◌, ℕ, ◌+◌, ◌*◌, ◌-◌, ◌%◌, ◌^◌, eqb, ltb, leb}
+use Rattle.std.specs.Prelude.{Bool, true, false, not, ◌&&◌, ◌||◌, ℕ, ◌+◌, ◌*◌, ◌-◌, ◌%◌, ◌^◌, eqb, ltb, leb, Option, Some, None}
 use Rattle.base.specs.Base.{pick, bit, bits, one}
 use Rattle.model.specs.Mailboxes.{sent_identifier}
 use Rattle.model.specs.declared.Fifo.{Fifo}
@@ -10,8 +10,6 @@ use Rattle.model.specs.declared.FifoState.{FifoState}
 use Rattle.model.specs.declared.Frame.{Frame}
 use Rattle.model.specs.declared.FilterNumber.{FilterNumber}
 use Rattle.model.specs.declared.MailboxState.{MailboxState}
-use Rattle.model.specs.declared.Acceptance.{Acceptance}
-use Rattle.model.specs.declared.Acceptance.TheVariants.{Into, Rejected}
 
 -- ---- frames
 
@@ -57,20 +55,20 @@ pushed q x rflm =
     (record { first = q.first; second = q.second; third = pick rflm q.third x; count = q.count; full = q.full; fovr = true })))
 
 -- the frame goes into this FIFO
-abbrev pub goes_into : Fifo → Acceptance → Bool
-goes_into F0 (Into F0 x) = true
-goes_into F0 (Into F1 x) = false
-goes_into F0 Rejected = false
-goes_into F1 (Into F0 x) = false
-goes_into F1 (Into F1 x) = true
-goes_into F1 Rejected = false
+abbrev pub goes_into : Fifo → Option (Fifo × FilterNumber) → Bool
+goes_into F0 (Some (F0, x)) = true
+goes_into F0 (Some (F1, x)) = false
+goes_into F0 None = false
+goes_into F1 (Some (F0, x)) = false
+goes_into F1 (Some (F1, x)) = true
+goes_into F1 None = false
 
 -- its filter number; 0 where there is none
-abbrev pub fmi_of : Acceptance → FilterNumber
-fmi_of (Into f x) = x
-fmi_of Rejected = record { 0 = 0 }
+abbrev pub fmi_of : Option (Fifo × FilterNumber) → FilterNumber
+fmi_of (Some (f, x)) = x
+fmi_of None = record { 0 = 0 }
 
-unfoldable pub received : Fifo → Acceptance → StoredFrame → Bool → FifoState → FifoState
+unfoldable pub received : Fifo → Option (Fifo × FilterNumber) → StoredFrame → Bool → FifoState → FifoState
 received f a x rflm q = pick (goes_into f a) (pushed q x rflm) q
 
 -- RFOM drops the oldest frame, if any

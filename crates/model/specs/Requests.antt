@@ -1,6 +1,6 @@
 -- The requests as an observer knows them who sees each step with its code, and a start's word, and nothing of the
 -- controller's state. Document 01: "Request book", one clause for each of its lines.
-use Rattle.std.specs.Prelude.{Bool, true, false, ◌&&◌, ◌||◌, List, [], ◌∷◌, ℕ, eqb}
+use Rattle.std.specs.Prelude.{Bool, true, false, ◌&&◌, ◌||◌, List, [], ◌∷◌, ℕ, eqb, Option, Some, None}
 use Rattle.base.specs.Base.{pick, bit}
 use Rattle.model.specs.Queue.{numbered, flag, flagged, no_flags, is_from}
 use Rattle.model.specs.Mailboxes.{abrq}
@@ -8,15 +8,13 @@ use Rattle.model.specs.Registers.{register_at}
 use Rattle.model.specs.Step.{step}
 use Rattle.model.specs.declared.Mailbox.{Mailbox}
 use Rattle.model.specs.declared.Mailbox.TheVariants.{M0, M1, M2}
-use Rattle.model.specs.declared.Sender.{Sender}
-use Rattle.model.specs.declared.Sender.TheVariants.{Nobody, From}
-use Rattle.model.specs.declared.MailboxBits.{MailboxBits}
 use Rattle.model.specs.declared.Controller.{Controller}
 use Rattle.model.specs.declared.Stepped.{Stepped}
 use Rattle.model.specs.declared.Register.{Register}
 use Rattle.model.specs.declared.Register.TheVariants.{Mcr, Msr, Tsr, Rfr, Ier, Esr, Btr, Ti, Tdt, Tdl, Tdh, Ri, Rdt, Rdl, Rdh, Fmr, Fm1r, Fs1r, Ffa1r, Fa1r, R1, R2, Absent}
 use Rattle.model.specs.declared.Step as steps
 use Rattle.model.specs.declared.Step.TheVariants.{Reset, Read, Write, Idle, BitTimes, Activity, Start, Outcome, Receive, ReceiveError}
+use Rattle.model.specs.declared.ByMailbox.{ByMailbox}
 
 -- ---- what the observer is fed: a step, its code, and a start's word
 
@@ -45,7 +43,7 @@ pub data Event : Type 0 where
   drops : Event
   modes : Bool → Bool → Event
   accepts : Mailbox → Event
-  aborts : MailboxBits → Event
+  aborts : ByMailbox Bool → Event
   starts : Mailbox → Event
   ends : Bool → Event
 
@@ -95,15 +93,15 @@ event e = pick (eqb e.code 0) (step_event e.step e.word) nothing
 -- ---- the requests
 
 pub record Requests : Type 0 where
-  pub outstanding : MailboxBits
-  pub marks : MailboxBits
-  pub transmitting : Sender
+  pub outstanding : ByMailbox Bool
+  pub marks : ByMailbox Bool
+  pub transmitting : Option Mailbox
   pub nart : Bool
   pub txfp : Bool
 
 -- at first no request is outstanding, no abort mark is set, nothing is on the wire, NART and TXFP are 0
 abbrev pub none_yet : Requests
-none_yet = record { outstanding = no_flags; marks = no_flags; transmitting = Nobody; nart = false; txfp = false }
+none_yet = record { outstanding = no_flags; marks = no_flags; transmitting = None; nart = false; txfp = false }
 
 -- a request that ends is no longer outstanding, and its mailbox's mark clears
 abbrev pub closed : Requests → Mailbox → Requests
@@ -117,15 +115,15 @@ abbrev pub abort_seen : Bool → Requests → Mailbox → Requests
 abort_seen a b m = pick (a && flag b.outstanding m) (pick (is_from b.transmitting m) (marked b m) (closed b m)) b
 
 abbrev pub wire_freed : Requests → Requests
-wire_freed b = record { outstanding = b.outstanding; marks = b.marks; transmitting = Nobody; nart = b.nart; txfp = b.txfp }
+wire_freed b = record { outstanding = b.outstanding; marks = b.marks; transmitting = None; nart = b.nart; txfp = b.txfp }
 
 -- an own end: the request ends on the wire if the frame ended well, NART is 1 or the mark is set, else it stays outstanding
 abbrev pub ends_too : Requests → Mailbox → Bool → Bool
 ends_too b m good = good || b.nart || flag b.marks m
 
-abbrev pub end_seen : Sender → Requests → Bool → Requests
-end_seen Nobody b good = b
-end_seen (From m) b good = pick (ends_too b m good) (closed (wire_freed b) m) (wire_freed b)
+abbrev pub end_seen : Option Mailbox → Requests → Bool → Requests
+end_seen None b good = b
+end_seen (Some m) b good = pick (ends_too b m good) (closed (wire_freed b) m) (wire_freed b)
 
 unfoldable pub next : Requests → Event → Requests
 next b nothing = b
@@ -133,7 +131,7 @@ next b drops = none_yet
 next b (modes n t) = record { outstanding = b.outstanding; marks = b.marks; transmitting = b.transmitting; nart = n; txfp = t }
 next b (accepts m) = record { outstanding = flagged b.outstanding m true; marks = b.marks; transmitting = b.transmitting; nart = b.nart; txfp = b.txfp }
 next b (aborts f) = abort_seen f.m2 (abort_seen f.m1 (abort_seen f.m0 b M0) M1) M2
-next b (starts m) = record { outstanding = b.outstanding; marks = b.marks; transmitting = From m; nart = b.nart; txfp = b.txfp }
+next b (starts m) = record { outstanding = b.outstanding; marks = b.marks; transmitting = Some m; nart = b.nart; txfp = b.txfp }
 next b (ends good) = end_seen b.transmitting b good
 
 -- ---- lists of steps

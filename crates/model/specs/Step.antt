@@ -1,7 +1,7 @@
 -- The step: one register access, bus event or hardware reset.
 -- Document 01: "Refusal numbers", "Bus events", "Modes"; interrupt lines in the last paragraph of "Bus events".
 -- Refuse first, then apply: the code is worked out from the state before, and code 0 alone changes anything.
-use Rattle.std.specs.Prelude.{Bool, true, not, ◌&&◌, ◌||◌, List, ℕ, ◌+◌, ◌*◌, ◌/◌, eqb, ltb, leb}
+use Rattle.std.specs.Prelude.{Bool, true, not, ◌&&◌, ◌||◌, List, ℕ, ◌+◌, ◌*◌, ◌/◌, eqb, ltb, leb, Option, Some, None}
 use Rattle.base.specs.Base.{pick, bit, one}
 use Rattle.model.specs.Queue.{is_empty, sender_number}
 use Rattle.model.specs.Mailboxes.{at, first_of, started, ended}
@@ -10,19 +10,17 @@ use Rattle.model.specs.Reception.{malformed, stored_frame, sent_frame, received,
 use Rattle.model.specs.Control.{txfp, rflm, nart, lbkm, silm, is_sleep, is_normal, epvf, boff, idled, idle_errors, ticked, woken, outcome_errors, received_errors, receive_error_counters, errors_changed, status_line}
 use Rattle.model.specs.Control as control
 use Rattle.model.specs.Registers.{register_at, is_absent, bank_count, reset, written, banks_written, write_refusal, read_word, is_free, with_control, with_errors, with_transmit}
-use Rattle.model.specs.declared.Sender.{Sender}
-use Rattle.model.specs.declared.Sender.TheVariants.{Nobody, From}
 use Rattle.model.specs.declared.Fifo.TheVariants.{F0, F1}
 use Rattle.model.specs.declared.Mailbox.{Mailbox}
 use Rattle.model.specs.declared.Transmit.{Transmit}
 use Rattle.model.specs.declared.Frame.{Frame}
-use Rattle.model.specs.declared.Acceptance.{Acceptance}
-use Rattle.model.specs.declared.Acceptance.TheVariants.{Rejected}
 use Rattle.model.specs.declared.Core.{Core}
 use Rattle.model.specs.declared.Controller.{Controller}
 use Rattle.model.specs.declared.Stepped.{Stepped}
 use Rattle.model.specs.declared.Step as steps
 use Rattle.model.specs.declared.Step.TheVariants.{Reset, Read, Write, Idle, BitTimes, Activity, Start, Outcome, Receive, ReceiveError}
+use Rattle.model.specs.declared.FilterNumber.{FilterNumber}
+use Rattle.model.specs.declared.Fifo.{Fifo}
 
 -- ---- "Refusal numbers": 1, 3, 2 for an access, 5, 4 for an event
 
@@ -71,7 +69,7 @@ word_of c v (ReceiveError k n) = 0
 -- ---- "Bus events"
 
 -- the frame goes to the FIFO that the filters say, with the given time
-unfoldable pub stored_by : Core → Acceptance → Frame → ℕ → Core
+unfoldable pub stored_by : Core → Option (Fifo × FilterNumber) → Frame → ℕ → Core
 stored_by c a x time = record {
   control = c.control;
   errors = c.errors;
@@ -81,20 +79,20 @@ stored_by c a x time = record {
   filters = c.filters;
 }
 
-unfoldable pub started_by : Sender → Core → Core
-started_by Nobody c = c
-started_by (From m) c = with_transmit c (started c.transmit m c.control.timer)
+unfoldable pub started_by : Option Mailbox → Core → Core
+started_by None c = c
+started_by (Some m) c = with_transmit c (started c.transmit m c.control.timer)
 
 -- loopback: a good frame with LBKM=1 and FINIT=0 passes the filters too
-unfoldable pub looped_back : Core → List ℕ → Mailbox → ℕ → Acceptance
+unfoldable pub looped_back : Core → List ℕ → Mailbox → ℕ → Option (Fifo × FilterNumber)
 looped_back c v m r =
     pick (eqb r 0 && lbkm c.control && not c.filters.finit)
     (acceptance bank_count c.filters v (sent_frame (at c.transmit.mailboxes m)).identifier)
-    Rejected
+    None
 
-unfoldable pub ended_by : Sender → Core → List ℕ → ℕ → Core
-ended_by Nobody c v r = c
-ended_by (From m) c v r =
+unfoldable pub ended_by : Option Mailbox → Core → List ℕ → ℕ → Core
+ended_by None c v r = c
+ended_by (Some m) c v r =
     with_transmit
     (with_errors
     (stored_by c (looped_back c v m r) (sent_frame (at c.transmit.mailboxes m)) ((at c.transmit.mailboxes m).tdt / 65536))

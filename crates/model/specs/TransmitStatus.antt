@@ -6,7 +6,7 @@ use Rattle.model.specs.Queue.{number}
 use Rattle.model.specs.Shown.{status_bit, rqcp, txok, alst, terr, abrq, code, tme, low, nart, next_of, is_error_result}
 use Rattle.model.specs.Codes.{offset_of}
 use Rattle.model.specs.ReadBack.{after_write, has}
-use Rattle.model.specs.Arbitration.{requests, on_wire, is_pending, IsLast, Some}
+use Rattle.model.specs.Arbitration.{requests, on_wire, is_pending, IsLast, SomeMailbox}
 use Rattle.model.specs.declared.Mailbox.{Mailbox}
 use Rattle.model.specs.declared.Controller.{Controller}
 use Rattle.model.specs.declared.Register.TheVariants.{Mcr, Tsr, Ti}
@@ -20,10 +20,10 @@ use Rattle.model.specs.declared.Step.TheVariants.{Reset, Read, Write, Idle, BitT
 pub record StatusWord (z : Controller) (m : Mailbox) : Type 0 where
   pub empty : tme m z ≡ not (has (requests z) (number m))
   pub code_empty : tme m z ≡ true → ((x : Mailbox) → number x < number m → tme x z ≡ false) → code z ≡ number m
-  pub code_full : ((x : Mailbox) → tme x z ≡ false) → Some (λ x. (code z ≡ number x) × IsLast z x)
+  pub code_full : ((x : Mailbox) → tme x z ≡ false) → SomeMailbox (λ x. (code z ≡ number x) × IsLast z x)
   pub low_last : low m z ≡ true → (2 ≤ length (requests z)) × IsLast z m
   pub lowest : 2 ≤ length (requests z) → IsLast z m → low m z ≡ true
-  pub low_some : 2 ≤ length (requests z) → Some (λ x. low x z ≡ true)
+  pub low_some : 2 ≤ length (requests z) → SomeMailbox (λ x. low x z ≡ true)
   -- an abort is remembered of the mailbox on the wire alone
   pub abrq : abrq m z ≡ true → on_wire z ≡ number m ∷ []
   pub reserved : (status_bit 4 m z ≡ false) × (status_bit 5 m z ≡ false) × (status_bit 6 m z ≡ false)

@@ -5,18 +5,11 @@
 // ---- transmission
 
 // One of the three transmit mailboxes.
-#[derive(Clone, Copy)]
+#[derive(Clone, Copy, Debug, PartialEq, Eq)]
 pub enum Mailbox {
     M0,
     M1,
     M2,
-}
-
-// A mailbox, or none: whose frame is on the wire, and which is first or last in priority.
-#[derive(Clone, Copy)]
-pub enum Sender {
-    Nobody,
-    From(Mailbox),
 }
 
 // The mailboxes that are not empty, the oldest request first.
@@ -28,20 +21,20 @@ pub enum RequestOrder {
     Three(Mailbox, Mailbox, Mailbox),
 }
 
-// A bit for each mailbox.
+// One thing for each mailbox: a bit, the identifier word that arbitration looks at, all that a mailbox holds.
 #[derive(Clone, Copy)]
-pub struct MailboxBits {
-    pub m0: bool,
-    pub m1: bool,
-    pub m2: bool,
+pub struct ByMailbox<T> {
+    pub m0: T,
+    pub m1: T,
+    pub m2: T,
 }
 
 // The requests: their order, the mailbox that is transmitting, the remembered aborts (ABRQ).
 #[derive(Clone, Copy)]
 pub struct Queue {
     pub order: RequestOrder,
-    pub transmitting: Sender,
-    pub aborts: MailboxBits,
+    pub transmitting: Option<Mailbox>,
+    pub aborts: ByMailbox<bool>,
 }
 
 // A mailbox's words, TXRQ left out of `ti`, and its flags in TSR.
@@ -58,30 +51,15 @@ pub struct MailboxState {
 }
 
 #[derive(Clone, Copy)]
-pub struct Mailboxes {
-    pub m0: MailboxState,
-    pub m1: MailboxState,
-    pub m2: MailboxState,
-}
-
-#[derive(Clone, Copy)]
 pub struct Transmit {
-    pub mailboxes: Mailboxes,
+    pub mailboxes: ByMailbox<MailboxState>,
     pub queue: Queue,
-}
-
-// The TI words of the three mailboxes: all that arbitration looks at.
-#[derive(Clone, Copy)]
-pub struct Identifiers {
-    pub m0: u32,
-    pub m1: u32,
-    pub m2: u32,
 }
 
 // ---- reception
 
 // One of the two receive FIFOs.
-#[derive(Clone, Copy)]
+#[derive(Clone, Copy, Debug, PartialEq, Eq)]
 pub enum Fifo {
     F0,
     F1,
@@ -145,23 +123,9 @@ pub struct Filters {
     pub finit: bool,
 }
 
-// The first matching filter of one class in one FIFO.
-#[derive(Clone, Copy)]
-pub enum Hit {
-    Filter(FilterNumber),
-    Nothing,
-}
-
-// Where a frame goes.
-#[derive(Clone, Copy)]
-pub enum Acceptance {
-    Into(Fifo, FilterNumber),
-    Rejected,
-}
-
 // ---- the controller
 
-#[derive(Clone, Copy)]
+#[derive(Clone, Copy, Debug, PartialEq, Eq)]
 pub enum Mode {
     Sleep,
     Initialization,

@@ -5,7 +5,7 @@ ghost use Rattle.std.specs.Prelude.{◌≡◌};
 ghost use Rattle.model.specs.Mailboxes as mailboxes;
 
 use bits::bit;
-use model::{Identifiers, Mailbox, Mailboxes, RequestOrder, Sender, Transmit};
+use model::{ByMailbox, Mailbox, MailboxState, RequestOrder, Transmit};
 use queue::{besides, newest, number, oldest};
 
 pub mod tsr; // tsr.rt: TSR as it is read
@@ -23,17 +23,17 @@ fn wire_key(ti: u32) -> u32
     base + rtr * 524288
 }
 
-pub fn identifiers(b: Mailboxes) -> Identifiers
+pub fn identifiers(b: ByMailbox<MailboxState>) -> ByMailbox<u32>
     ensures { result ≡ mailboxes.identifiers b }
 {
-    Identifiers {
+    ByMailbox {
         m0: b.m0.ti,
         m1: b.m1.ti,
         m2: b.m2.ti,
     }
 }
 
-fn identifier(i: Identifiers, m: Mailbox) -> u32
+fn identifier(i: ByMailbox<u32>, m: Mailbox) -> u32
     ensures { result ≡ mailboxes.identifier i m }
 {
     match m {
@@ -44,7 +44,7 @@ fn identifier(i: Identifiers, m: Mailbox) -> u32
 }
 
 // Equal bits: the lower mailbox. A wire key has 32 bits, so this has 34.
-fn key(i: Identifiers, m: Mailbox) -> u64
+fn key(i: ByMailbox<u32>, m: Mailbox) -> u64
     ensures { result ≡ mailboxes.key i m }
 {
     let bits = wire_key(identifier(i, m)) as u64;
@@ -52,13 +52,13 @@ fn key(i: Identifiers, m: Mailbox) -> u64
     bits * 4 + n
 }
 
-fn before(i: Identifiers, a: Mailbox, b: Mailbox) -> bool
+fn before(i: ByMailbox<u32>, a: Mailbox, b: Mailbox) -> bool
     ensures { result ≡ mailboxes.before i a b }
 {
     key(i, a) < key(i, b)
 }
 
-fn sooner(i: Identifiers, a: Mailbox, b: Mailbox) -> Mailbox
+fn sooner(i: ByMailbox<u32>, a: Mailbox, b: Mailbox) -> Mailbox
     ensures { result ≡ mailboxes.sooner i a b }
 {
     if before(i, a, b) {
@@ -67,7 +67,7 @@ fn sooner(i: Identifiers, a: Mailbox, b: Mailbox) -> Mailbox
     b
 }
 
-fn later(i: Identifiers, a: Mailbox, b: Mailbox) -> Mailbox
+fn later(i: ByMailbox<u32>, a: Mailbox, b: Mailbox) -> Mailbox
     ensures { result ≡ mailboxes.later i a b }
 {
     if before(i, a, b) {
@@ -76,30 +76,30 @@ fn later(i: Identifiers, a: Mailbox, b: Mailbox) -> Mailbox
     a
 }
 
-fn first_in_wire_order(i: Identifiers, o: RequestOrder) -> Sender
+fn first_in_wire_order(i: ByMailbox<u32>, o: RequestOrder) -> Option<Mailbox>
     ensures { result ≡ mailboxes.first_in_wire_order i o }
 {
     match o {
-        RequestOrder::Empty => Sender::Nobody,
-        RequestOrder::One(a) => Sender::From(a),
-        RequestOrder::Two(a, b) => Sender::From(sooner(i, a, b)),
-        RequestOrder::Three(a, b, c) => Sender::From(sooner(i, sooner(i, a, b), c)),
+        RequestOrder::Empty => None,
+        RequestOrder::One(a) => Some(a),
+        RequestOrder::Two(a, b) => Some(sooner(i, a, b)),
+        RequestOrder::Three(a, b, c) => Some(sooner(i, sooner(i, a, b), c)),
     }
 }
 
-fn last_in_wire_order(i: Identifiers, o: RequestOrder) -> Sender
+fn last_in_wire_order(i: ByMailbox<u32>, o: RequestOrder) -> Option<Mailbox>
     ensures { result ≡ mailboxes.last_in_wire_order i o }
 {
     match o {
-        RequestOrder::Empty => Sender::Nobody,
-        RequestOrder::One(a) => Sender::From(a),
-        RequestOrder::Two(a, b) => Sender::From(later(i, a, b)),
-        RequestOrder::Three(a, b, c) => Sender::From(later(i, later(i, a, b), c)),
+        RequestOrder::Empty => None,
+        RequestOrder::One(a) => Some(a),
+        RequestOrder::Two(a, b) => Some(later(i, a, b)),
+        RequestOrder::Three(a, b, c) => Some(later(i, later(i, a, b), c)),
     }
 }
 
 // First in priority: request order if TXFP=1, else the bits on the wire.
-pub fn first(txfp: bool, i: Identifiers, o: RequestOrder) -> Sender
+pub fn first(txfp: bool, i: ByMailbox<u32>, o: RequestOrder) -> Option<Mailbox>
     ensures { result ≡ mailboxes.first txfp i o }
 {
     if txfp {
@@ -108,7 +108,7 @@ pub fn first(txfp: bool, i: Identifiers, o: RequestOrder) -> Sender
     first_in_wire_order(i, o)
 }
 
-pub fn last(txfp: bool, i: Identifiers, o: RequestOrder) -> Sender
+pub fn last(txfp: bool, i: ByMailbox<u32>, o: RequestOrder) -> Option<Mailbox>
     ensures { result ≡ mailboxes.last txfp i o }
 {
     if txfp {
@@ -118,7 +118,7 @@ pub fn last(txfp: bool, i: Identifiers, o: RequestOrder) -> Sender
 }
 
 // The one on the wire stands first, so it is not the last where another waits.
-pub fn last_of(txfp: bool, t: Transmit) -> Sender
+pub fn last_of(txfp: bool, t: Transmit) -> Option<Mailbox>
     ensures { result ≡ mailboxes.last_of txfp t }
 {
     let b = t.mailboxes;

@@ -6,20 +6,20 @@ ghost use Rattle.priority.specs.Status as status;
 
 use super::last_of;
 use bits::one;
-use model::{Mailbox, MailboxBits, MailboxState, Mailboxes, RequestOrder, Sender, Transmit};
+use model::{ByMailbox, Mailbox, MailboxState, RequestOrder, Transmit};
 use queue::{holds, is_from, sender_number, two_or_more};
 
-fn as_number(f: MailboxBits) -> u32
+fn as_number(f: ByMailbox<bool>) -> u32
     ensures { (result ≡ status.as_number f) × (result < 8) }
 {
     one(f.m0) + one(f.m1) * 2 + one(f.m2) * 4
 }
 
 // TME: the mailbox is empty.
-fn tme_bits(o: RequestOrder) -> MailboxBits
+fn tme_bits(o: RequestOrder) -> ByMailbox<bool>
     ensures { result ≡ status.tme_bits o }
 {
-    MailboxBits {
+    ByMailbox {
         m0: !holds(o, Mailbox::M0),
         m1: !holds(o, Mailbox::M1),
         m2: !holds(o, Mailbox::M2),
@@ -27,11 +27,11 @@ fn tme_bits(o: RequestOrder) -> MailboxBits
 }
 
 // LOW: with two or more not empty, the lowest in priority.
-fn low_bits(o: RequestOrder, last: Sender) -> MailboxBits
+fn low_bits(o: RequestOrder, last: Option<Mailbox>) -> ByMailbox<bool>
     ensures { result ≡ status.low_bits o last }
 {
     let several = two_or_more(o);
-    MailboxBits {
+    ByMailbox {
         m0: several & is_from(last, Mailbox::M0),
         m1: several & is_from(last, Mailbox::M1),
         m2: several & is_from(last, Mailbox::M2),
@@ -39,7 +39,7 @@ fn low_bits(o: RequestOrder, last: Sender) -> MailboxBits
 }
 
 // CODE: the lowest empty mailbox, else the lowest in priority.
-fn code_of(tme: MailboxBits, last: Sender) -> u32
+fn code_of(tme: ByMailbox<bool>, last: Option<Mailbox>) -> u32
     ensures { (result ≡ status.code_of tme last) × (result < 4) }
 {
     if tme.m0 {
@@ -60,7 +60,7 @@ fn tsr_byte(x: MailboxState, abort: bool) -> u32
     one(x.rqcp) + one(x.txok) * 2 + one(x.alst) * 4 + one(x.terr) * 8 + one(abort) * 128
 }
 
-fn flag_bytes(b: Mailboxes, f: MailboxBits) -> u32
+fn flag_bytes(b: ByMailbox<MailboxState>, f: ByMailbox<bool>) -> u32
     ensures { (result ≡ status.flag_bytes b f) × (result < 2 ^ 24) }
 {
     tsr_byte(b.m0, f.m0) + tsr_byte(b.m1, f.m1) * 256 + tsr_byte(b.m2, f.m2) * 65536

@@ -5,7 +5,7 @@ ghost use Rattle.std.specs.Prelude.{◌≡◌};
 ghost use Rattle.base.specs.Base as base;
 ghost use Rattle.model.specs.Queue as queue;
 
-use model::{Mailbox, MailboxBits, Queue, RequestOrder, Sender};
+use model::{ByMailbox, Mailbox, Queue, RequestOrder};
 
 // ---- mailboxes and their numbers
 
@@ -41,7 +41,7 @@ pub fn same(a: Mailbox, b: Mailbox) -> bool
     }
 }
 
-pub fn flag(f: MailboxBits, m: Mailbox) -> bool
+pub fn flag(f: ByMailbox<bool>, m: Mailbox) -> bool
     ensures { result ≡ queue.flag f m }
 {
     match m {
@@ -51,21 +51,21 @@ pub fn flag(f: MailboxBits, m: Mailbox) -> bool
     }
 }
 
-fn flagged(f: MailboxBits, m: Mailbox, b: bool) -> MailboxBits
+fn flagged(f: ByMailbox<bool>, m: Mailbox, b: bool) -> ByMailbox<bool>
     ensures { result ≡ queue.flagged f m b }
 {
     match m {
-        Mailbox::M0 => MailboxBits {
+        Mailbox::M0 => ByMailbox {
             m0: b,
             m1: f.m1,
             m2: f.m2,
         },
-        Mailbox::M1 => MailboxBits {
+        Mailbox::M1 => ByMailbox {
             m0: f.m0,
             m1: b,
             m2: f.m2,
         },
-        Mailbox::M2 => MailboxBits {
+        Mailbox::M2 => ByMailbox {
             m0: f.m0,
             m1: f.m1,
             m2: b,
@@ -73,10 +73,10 @@ fn flagged(f: MailboxBits, m: Mailbox, b: bool) -> MailboxBits
     }
 }
 
-fn no_flags() -> MailboxBits
+fn no_flags() -> ByMailbox<bool>
     ensures { result ≡ queue.no_flags }
 {
-    MailboxBits {
+    ByMailbox {
         m0: false,
         m1: false,
         m2: false,
@@ -144,25 +144,25 @@ fn without(o: RequestOrder, m: Mailbox) -> RequestOrder
     }
 }
 
-pub fn oldest(o: RequestOrder) -> Sender
+pub fn oldest(o: RequestOrder) -> Option<Mailbox>
     ensures { result ≡ queue.oldest o }
 {
     match o {
-        RequestOrder::Empty => Sender::Nobody,
-        RequestOrder::One(a) => Sender::From(a),
-        RequestOrder::Two(a, _) => Sender::From(a),
-        RequestOrder::Three(a, _, _) => Sender::From(a),
+        RequestOrder::Empty => None,
+        RequestOrder::One(a) => Some(a),
+        RequestOrder::Two(a, _) => Some(a),
+        RequestOrder::Three(a, _, _) => Some(a),
     }
 }
 
-pub fn newest(o: RequestOrder) -> Sender
+pub fn newest(o: RequestOrder) -> Option<Mailbox>
     ensures { result ≡ queue.newest o }
 {
     match o {
-        RequestOrder::Empty => Sender::Nobody,
-        RequestOrder::One(a) => Sender::From(a),
-        RequestOrder::Two(_, b) => Sender::From(b),
-        RequestOrder::Three(_, _, c) => Sender::From(c),
+        RequestOrder::Empty => None,
+        RequestOrder::One(a) => Some(a),
+        RequestOrder::Two(_, b) => Some(b),
+        RequestOrder::Three(_, _, c) => Some(c),
     }
 }
 
@@ -191,41 +191,41 @@ pub fn two_or_more(o: RequestOrder) -> bool
 
 // ---- the mailbox that is transmitting
 
-pub fn is_from(s: Sender, m: Mailbox) -> bool
+pub fn is_from(s: Option<Mailbox>, m: Mailbox) -> bool
     ensures { result ≡ queue.is_from s m }
 {
     match s {
-        Sender::Nobody => false,
-        Sender::From(a) => same(a, m),
+        None => false,
+        Some(a) => same(a, m),
     }
 }
 
-pub fn is_nobody(s: Sender) -> bool
+pub fn is_nobody(s: Option<Mailbox>) -> bool
     ensures { result ≡ queue.is_nobody s }
 {
     match s {
-        Sender::Nobody => true,
-        Sender::From(_) => false,
+        None => true,
+        Some(_) => false,
     }
 }
 
 // The number of a mailbox; 0 where there is none.
-pub fn sender_number(s: Sender) -> u32
+pub fn sender_number(s: Option<Mailbox>) -> u32
     ensures { result ≡ queue.sender_number s }
 {
     match s {
-        Sender::Nobody => 0,
-        Sender::From(m) => number(m),
+        None => 0,
+        Some(m) => number(m),
     }
 }
 
 // The order without the mailbox that is transmitting.
-pub fn besides(s: Sender, o: RequestOrder) -> RequestOrder
+pub fn besides(s: Option<Mailbox>, o: RequestOrder) -> RequestOrder
     ensures { result ≡ queue.besides s o }
 {
     match s {
-        Sender::Nobody => o,
-        Sender::From(m) => without(o, m),
+        None => o,
+        Some(m) => without(o, m),
     }
 }
 
@@ -236,7 +236,7 @@ pub fn no_requests() -> Queue
 {
     Queue {
         order: RequestOrder::Empty,
-        transmitting: Sender::Nobody,
+        transmitting: None,
         aborts: no_flags(),
     }
 }
@@ -306,7 +306,7 @@ fn aborted(b: bool, q: Queue, m: Mailbox) -> Queue
     q
 }
 
-pub fn aborted_all(q: Queue, f: MailboxBits) -> Queue
+pub fn aborted_all(q: Queue, f: ByMailbox<bool>) -> Queue
     ensures { result ≡ queue.aborted_all q f }
 {
     let after_m0 = aborted(f.m0, q, Mailbox::M0);
@@ -321,7 +321,7 @@ pub fn sending(q: Queue, m: Mailbox) -> Queue
     let f = q.aborts;
     Queue {
         order: requests,
-        transmitting: Sender::From(m),
+        transmitting: Some(m),
         aborts: f,
     }
 }
@@ -333,7 +333,7 @@ fn freed(q: Queue) -> Queue
     let f = q.aborts;
     Queue {
         order: pending,
-        transmitting: Sender::Nobody,
+        transmitting: None,
         aborts: f,
     }
 }

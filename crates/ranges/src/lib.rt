@@ -8,10 +8,7 @@ ghost use Rattle.model.specs.Queue as queues;
 ghost use Rattle.model.specs.Registers as map;
 ghost use Rattle.ranges.specs.Ranges as ranges;
 
-use model::{
-    Control, Core, Errors, FifoState, Filters, Frame, Mailbox, MailboxState, Queue, RequestOrder,
-    Sender, StoredFrame, Transmit,
-};
+use model::{Control, Core, Errors, FifoState, Filters, Frame, Mailbox, MailboxState, Queue, RequestOrder, StoredFrame, Transmit};
 
 // ---- requests
 
@@ -28,12 +25,12 @@ fn distinct(o: RequestOrder) -> bool
     }
 }
 
-fn carried(s: Sender, o: RequestOrder) -> bool
+fn carried(s: Option<Mailbox>, o: RequestOrder) -> bool
     ensures { result ≡ reachable.carried s o }
 {
     match s {
-        Sender::Nobody => true,
-        Sender::From(m) => queue::holds(o, m),
+        None => true,
+        Some(m) => queue::holds(o, m),
     }
 }
 

@@ -7,7 +7,7 @@ ghost use Rattle.model.specs.Mailboxes as mailboxes;
 ghost use Rattle.model.specs.Reception as reception;
 
 use bits::{bit, one};
-use model::{Acceptance, Fifo, FifoState, FilterNumber, Frame, MailboxState, StoredFrame};
+use model::{Fifo, FifoState, FilterNumber, Frame, MailboxState, StoredFrame};
 
 // ---- frames
 
@@ -144,37 +144,37 @@ pub fn pushed(q: FifoState, x: StoredFrame, rflm: bool) -> FifoState
     p
 }
 
-pub fn goes_into(f: Fifo, a: Acceptance) -> bool
+pub fn goes_into(f: Fifo, a: Option<(Fifo, FilterNumber)>) -> bool
     ensures { result ≡ reception.goes_into f a }
 {
     match f {
         Fifo::F0 => match a {
-            Acceptance::Into(g, _) => match g {
+            Some((g, _)) => match g {
                 Fifo::F0 => true,
                 Fifo::F1 => false,
             },
-            Acceptance::Rejected => false,
+            None => false,
         },
         Fifo::F1 => match a {
-            Acceptance::Into(g, _) => match g {
+            Some((g, _)) => match g {
                 Fifo::F0 => false,
                 Fifo::F1 => true,
             },
-            Acceptance::Rejected => false,
+            None => false,
         },
     }
 }
 
-pub fn fmi_of(a: Acceptance) -> FilterNumber
+pub fn fmi_of(a: Option<(Fifo, FilterNumber)>) -> FilterNumber
     ensures { result ≡ reception.fmi_of a }
 {
     match a {
-        Acceptance::Into(_, x) => x,
-        Acceptance::Rejected => FilterNumber(0),
+        Some((_, x)) => x,
+        None => FilterNumber(0),
     }
 }
 
-pub fn received(f: Fifo, a: Acceptance, x: StoredFrame, rflm: bool, q: FifoState) -> FifoState
+pub fn received(f: Fifo, a: Option<(Fifo, FilterNumber)>, x: StoredFrame, rflm: bool, q: FifoState) -> FifoState
     ensures { result ≡ reception.received f a x rflm q }
 {
     if goes_into(f, a) {

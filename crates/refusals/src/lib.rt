@@ -6,7 +6,7 @@ ghost use Rattle.model.specs.Registers as map;
 ghost use Rattle.model.specs.Step as stepping;
 ghost use Rattle.model.specs.declared.Step.TheVariants as steps;
 
-use model::{Core, Frame, Mailbox, Register, Sender};
+use model::{Core, Frame, Mailbox, Register};
 
 pub fn has_request(c: Core, m: Mailbox) -> bool
     ensures { result ≡ map.has_request c m }
@@ -23,8 +23,8 @@ pub fn is_free(c: Core) -> bool
     let q = c.transmit.queue;
     let s = q.transmitting;
     match s {
-        Sender::Nobody => true,
-        Sender::From(_) => false,
+        None => true,
+        Some(_) => false,
     }
 }
 

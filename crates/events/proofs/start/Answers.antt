@@ -2,10 +2,10 @@
 use Rattle.model.specs.Step.{applied, started_by}
 use Rattle.events.proofs.start.Goals as goal
 
-pub returns-in-Nobody : goal.returns-in-Nobody
+pub returns-in-None : goal.returns-in-None
 unfolding applied started_by
-returns-in-Nobody c = rw (c.same_errors-d.ensures, ← c.txfp.ensures, ← c.identifiers-i.ensures, ← c.first-s.ensures, c.in-Nobody.is)
+returns-in-None c = rw (c.same_errors-d.ensures, ← c.txfp.ensures, ← c.identifiers-i.ensures, ← c.first-s.ensures, c.in-None.is)
 
-pub returns-in-From : goal.returns-in-From
+pub returns-in-Some : goal.returns-in-Some
 unfolding applied started_by
-returns-in-From c = rw (c.same_errors-d.ensures, ← c.txfp.ensures, ← c.identifiers-i.ensures, ← c.first-s.ensures, c.in-From.is, c.started-d.ensures)
+returns-in-Some c = rw (c.same_errors-d.ensures, ← c.txfp.ensures, ← c.identifiers-i.ensures, ← c.first-s.ensures, c.in-Some.is, c.started-d.ensures)

@@ -1,4 +1,4 @@
 use Rattle.queue.proofs.besides.Goals as goal
 
-pub returns-in-From : goal.returns-in-From
-returns-in-From c = simp (c.without.ensures, c.in-From.is)
+pub returns-in-Some : goal.returns-in-Some
+returns-in-Some c = simp (c.without.ensures, c.in-Some.is)

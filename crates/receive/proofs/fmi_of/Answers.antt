@@ -1,4 +1,4 @@
 use Rattle.receive.proofs.fmi_of.Goals as goal
 
-pub returns-in-Rejected : goal.returns-in-Rejected
-returns-in-Rejected c = simp c.in-Rejected.is
+pub returns-in-None : goal.returns-in-None
+returns-in-None c = simp c.in-None.is
