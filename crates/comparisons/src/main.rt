@@ -68,18 +68,18 @@ fn with_search(n: Counts, compared: u64) -> Counts {
 // ---- text
 
 fn head() -> Line {
-    text::put(text::empty(), b"     record   compared\n")
+    Line::empty().put(b"     record   compared\n")
 }
 
 fn with_row(l: Line, record: u64, compared: u64) -> Line {
-    let a = text::right(text::right(l, record, COLUMN), compared, COLUMN);
-    text::byte(a, b'\n')
+    let a = l.right(record, COLUMN).right(compared, COLUMN);
+    a.byte(b'\n')
 }
 
 fn with_last(l: Line, n: Counts) -> Line {
-    let a = text::said(l, b"% searches, ", 0, n.searches);
-    let b = text::said(a, b"% filters compared, ", 0, n.compared);
-    text::said(b, b"% at most\n", 0, n.most)
+    let a = l.said(b"% searches, ", 0, n.searches);
+    let b = a.said(b"% filters compared, ", 0, n.compared);
+    b.said(b"% at most\n", 0, n.most)
 }
 
 fn complain(text: &[u8]) {
@@ -127,7 +127,7 @@ fn flushed(s: Session) -> Session {
         complain(b"comparisons: standard output can't be written, the rest is lost\n");
     }
     let mut t = s;
-    t.text = text::empty();
+    t.text = Line::empty();
     t.going = s.going & ok;
     t
 }

@@ -7,7 +7,7 @@ use bits::least;
 use model::{Reading, Step};
 use std::io::Read;
 use stream::Input;
-use text::{Line, byte, put};
+use text::Line;
 
 const STDOUT_FILENO: i32 = 1;
 
@@ -83,7 +83,7 @@ fn read_on<R: Read>(p: Progress, reader: &mut R, space: &mut [u8]) -> Progress {
 // A line goes behind the text that waits; it tells so many bytes.
 fn told(p: Progress, l: Line, length: usize, out: &mut [u8]) -> Progress {
     let from = least(p.waiting, out.len());
-    let n = text::copied(byte(l, b'\n'), &mut out[from..]);
+    let n = l.byte(b'\n').copied(&mut out[from..]);
     let mut q = p;
     q.waiting = std::num::wrapping_add_usize(from, n);
     q.input = stream::passed(p.input, length);
@@ -99,7 +99,7 @@ fn told_bytes(p: Progress, rest: &[u8], out: &mut [u8]) -> Progress {
     if n == 0 {
         return stopped(p);
     }
-    told(p, phrases::bytes(text::empty(), &rest[0..n]), n, out)
+    told(p, phrases::bytes(Line::empty(), &rest[0..n]), n, out)
 }
 
 // The first of them, with what is wrong; where reading failed the script may just break off inside the record.
@@ -111,12 +111,12 @@ fn unread(p: Progress, f: Fault, rest: &[u8], out: &mut [u8]) -> Progress {
         return told_bytes(q, rest, out);
     }
     let n = least(LONGEST_RECORD, rest.len());
-    let l = put(phrases::bytes(text::empty(), &rest[0..n]), b" # ");
+    let l = phrases::bytes(Line::empty(), &rest[0..n]).put(b" # ");
     told(q, wording::fault(l, f), n, out)
 }
 
 fn stepped(p: Progress, e: Step, length: usize, out: &mut [u8]) -> Progress {
-    told(p, phrases::step(text::empty(), e, false), length, out)
+    told(p, phrases::step(Line::empty(), e, false), length, out)
 }
 
 fn next_record(p: Progress, rest: &[u8], out: &mut [u8]) -> Progress {

@@ -7,7 +7,7 @@ ghost use Rattle.phrases.specs.Frames as framing;
 
 use super::{begun, name};
 use model::{FilterNumber, Frame, WideFrame, WideStep};
-use text::{Line, decimal, digits, hex, put};
+use text::Line;
 
 // ---- bytes
 
@@ -15,9 +15,9 @@ fn pair(l: Line, b: u8, blank: bool) -> Line
     ensures { result ≡ lines.put_all l (framing.pair_text blank b) }
 {
     if blank {
-        return digits(put(l, b" "), b as u32, 2);
+        return l.put(b" ").digits(b as u32, 2);
     }
-    digits(l, b as u32, 2)
+    l.digits(b as u32, 2)
 }
 
 // Two hex digits for each byte, with a blank in front or not.
@@ -67,22 +67,22 @@ fn identifier(l: Line, w: u32) -> Line
     ensures { result ≡ lines.put_all l (framing.identifier_text w) }
 {
     if bits::bit(2, w) {
-        return digits(l, w / 8, 8);
+        return l.digits(w / 8, 8);
     }
-    digits(l, w / 0x200000, 3)
+    l.digits(w / 0x200000, 3)
 }
 
 fn remote(l: Line, length: u8) -> Line
     ensures { result ≡ lines.put_all l (framing.remote_text length) }
 {
-    let a = put(l, b"R");
+    let a = l.put(b"R");
     if length == 0 {
         return a;
     }
     if length < 8 {
-        return digits(a, length as u32, 1);
+        return a.digits(length as u32, 1);
     }
-    put(a, b"8")
+    a.put(b"8")
 }
 
 fn data(l: Line, x: Frame) -> Line
@@ -109,14 +109,14 @@ fn code(l: Line, length: u8) -> Line
     if length <= 8 {
         return l;
     }
-    digits(put(l, b"_"), length as u32, 1)
+    l.put(b"_").digits(length as u32, 1)
 }
 
 fn worded(l: Line, x: Frame) -> Line
     ensures { result ≡ lines.put_all l (framing.worded_text x) }
 {
     let a = identifier(begun(l, 8), x.identifier);
-    let b = payload(put(a, b"#"), x);
+    let b = payload(a.put(b"#"), x);
     code(b, x.length)
 }
 
@@ -126,10 +126,10 @@ fn worded(l: Line, x: Frame) -> Line
 fn remark(l: Line, x: Frame) -> Line
     ensures { result ≡ lines.put_all l (framing.remark_text x) }
 {
-    let a = hex(put(l, b" # frame, identifier word "), x.identifier, 8);
-    let b = decimal(put(a, b", length code "), x.length as u64);
+    let a = l.put(b" # frame, identifier word ").hex(x.identifier, 8);
+    let b = a.put(b", length code ").decimal(x.length as u64);
     let s = record(x);
-    pairs(put(b, b", data"), &s[8..16], true)
+    pairs(b.put(b", data"), &s[8..16], true)
 }
 
 fn unworded(l: Line, x: Frame) -> Line

@@ -13,7 +13,7 @@ use model::Step;
 use names::Group;
 use names::rows::{Found, Numbers, numbers_of};
 use names::scan::distance;
-use text::{Line, byte, decimal, hex, put};
+use text::Line;
 
 mod frames; // a frame, and bytes as they are
 
@@ -33,10 +33,10 @@ pub fn name(l: Line, row: usize, index: u32) -> Line
             return m;
         }
         if c == b'%' {
-            m = decimal(m, index as u64);
+            m = m.decimal(index as u64);
             continue;
         }
-        m = byte(m, c);
+        m = m.byte(c);
     }
     m
 }
@@ -47,7 +47,7 @@ pub fn register(l: Line, offset: u32) -> Line
 {
     let f = names::register_at(offset);
     if f.row == names::rows::NONE {
-        return hex(l, offset, 4);
+        return l.hex(offset, 4);
     }
     name(l, f.row, f.index)
 }
@@ -68,11 +68,11 @@ fn amount(l: Line, size: u32, digits: u32, n: u32) -> Line
     if size == 1 {
         return l;
     }
-    let a = put(l, b" ");
+    let a = l.put(b" ");
     if digits == 0 {
-        return decimal(a, n as u64);
+        return a.decimal(n as u64);
     }
-    hex(a, n, digits)
+    a.hex(n, digits)
 }
 
 // The lowest bits of a number.
@@ -124,7 +124,7 @@ fn with_field(s: Said, n: Numbers, f: Found, w: u32) -> Said
     }
     let rest = distance(x.placed as usize, s.rest);
     let l = s.line;
-    let a = name(put(l, b" "), f.row, f.index);
+    let a = name(l.put(b" "), f.row, f.index);
     Said {
         line: amount(a, n.size, n.digits, x.value),
         rest: rest,
@@ -180,13 +180,13 @@ pub fn fields(l: Line, offset: u32, w: u32) -> Line
 fn begun(l: Line, row: usize) -> Line
     ensures { result ≡ lines.put_all l (naming.leading row) }
 {
-    put(name(l, row, 0), b" ")
+    name(l, row, 0).put(b" ")
 }
 
 fn number(l: Line, w: u32) -> Line
     ensures { result ≡ lines.put_all l (steps.number_text w) }
 {
-    hex(put(l, b" "), w, 8)
+    l.put(b" ").hex(w, 8)
 }
 
 // What is written: number and fields, or the fields where they say all of it, or the number.
@@ -215,14 +215,14 @@ fn outcome(l: Line, res: u8) -> Line
     if res < 9 {
         return name(l, 14 + res as usize, 0);
     }
-    decimal(l, res as u64)
+    l.decimal(res as u64)
 }
 
 fn error(l: Line, code: u8, by: u8) -> Line
     ensures { result ≡ lines.put_all l (steps.error_text code by) }
 {
-    let a = decimal(begun(l, 9), code as u64);
-    decimal(put(a, b" "), by as u64)
+    let a = begun(l, 9).decimal(code as u64);
+    a.put(b" ").decimal(by as u64)
 }
 
 // A step, without line end. `full`: with the number of a written word in front of its fields.
@@ -234,7 +234,7 @@ pub fn step(l: Line, e: Step, full: bool) -> Line
         Step::Read(offset) => register(begun(l, 1), offset as u32),
         Step::Write(offset, w) => write(l, offset as u32, w, full),
         Step::Idle => name(l, 3, 0),
-        Step::BitTimes(n) => decimal(begun(l, 4), n as u64),
+        Step::BitTimes(n) => begun(l, 4).decimal(n as u64),
         Step::Activity => name(l, 5, 0),
         Step::Start => name(l, 6, 0),
         Step::Outcome(result) => outcome(begun(l, 7), result),
@@ -260,7 +260,7 @@ pub fn lines(l: Line, up: u8) -> Line
     let mut i: u8 = 0;
     while i < 4 {
         if (up >> i) % 2 == 1 {
-            m = name(byte(m, b' '), 23 + i as usize, 0);
+            m = name(m.byte(b' '), 23 + i as usize, 0);
         }
         i += 1;
     }

@@ -6,7 +6,7 @@ use bits::least;
 use model::{Answer, ReplyReading};
 use std::io::Read;
 use stream::Input;
-use text::{Line, put, said};
+use text::Line;
 
 const STDOUT_FILENO: i32 = 1;
 
@@ -28,61 +28,58 @@ const LINES_WIDTH: usize = 18;
 // ---- a line of text
 
 fn head() -> Line {
-    put(
-        text::empty(),
-        b"     reply  code  lines               word\n",
-    )
+    Line::empty().put(b"     reply  code  lines               word\n")
 }
 
 // The interrupt lines that are up, behind a blank; a byte that no controller gives as a number.
 fn lines(l: Line, up: u8) -> Line {
     if up == 0 {
-        return put(l, b" -");
+        return l.put(b" -");
     }
     if 15 < up {
-        return text::hex(put(l, b" "), up as u32, 2);
+        return l.put(b" ").hex(up as u32, 2);
     }
     phrases::lines(l, up)
 }
 
 fn row(n: u64, a: Answer) -> Line {
-    let b = put(text::right(text::empty(), n, NUMBER_WIDTH), b"  ");
-    let c = put(text::right(b, a.code as u64, CODE_WIDTH), b" ");
+    let b = Line::empty().right(n, NUMBER_WIDTH).put(b"  ");
+    let c = b.right(a.code as u64, CODE_WIDTH).put(b" ");
     let behind = std::num::wrapping_add_usize(c.at, 1 + LINES_WIDTH + 2);
-    let d = text::column(lines(c, a.lines), behind);
-    put(text::hex(d, a.word, 8), b"\n")
+    let d = lines(c, a.lines).column(behind);
+    d.hex(a.word, 8).put(b"\n")
 }
 
 // ---- a reply that can't be read
 
 fn with_tag(l: Line, tag: u8) -> Line {
-    let a = text::hex(put(l, b"tag "), tag as u32, 2);
-    put(a, b", a reply has 0x81")
+    let a = l.put(b"tag ").hex(tag as u32, 2);
+    a.put(b", a reply has 0x81")
 }
 
 // Why the reply at the start of the rest can't be read, by its code 6 to 8.
 fn with_reason(l: Line, code: u8, rest: &[u8]) -> Line {
     let n = rest.len();
     if n < HEADER_LENGTH {
-        return said(l, b"short header, % bytes of 3", 0, n as u64);
+        return l.said(b"short header, % bytes of 3", 0, n as u64);
     }
     if code == 7 {
         return with_tag(l, rest[0]);
     }
     if code == 8 {
         let length = records::decode::pair(rest[1], rest[2]);
-        return said(l, b"length %, a reply has 6", 0, length as u64);
+        return l.said(b"length %, a reply has 6", 0, length as u64);
     }
     let body = n - HEADER_LENGTH;
-    said(l, b"short body, % bytes of 6", 0, body as u64)
+    l.said(b"short body, % bytes of 6", 0, body as u64)
 }
 
 // The same with the number (from 1) and the first byte (from 0) of the reply.
 fn complaint(n: u64, place: u64, code: u8, rest: &[u8]) -> Line {
-    let a = said(text::empty(), b"replies: reply %", 0, n);
-    let b = said(a, b" at byte %: ", 0, place);
-    let c = said(b, b"malformed %: ", 0, code as u64);
-    put(with_reason(c, code, rest), b"\n")
+    let a = Line::empty().said(b"replies: reply %", 0, n);
+    let b = a.said(b" at byte %: ", 0, place);
+    let c = b.said(b"malformed %: ", 0, code as u64);
+    with_reason(c, code, rest).put(b"\n")
 }
 
 // ---- output
@@ -164,7 +161,7 @@ fn read_on<R: Read>(p: Progress, reader: &mut R, space: &mut [u8]) -> Progress {
 // The text of a line goes behind the text that waits.
 fn stored(p: Progress, l: Line, out: &mut [u8]) -> Progress {
     let from = least(p.waiting, out.len());
-    let n = text::copied(l, &mut out[from..]);
+    let n = l.copied(&mut out[from..]);
     let mut q = p;
     q.waiting = std::num::wrapping_add_usize(from, n);
     flushed_if(ENOUGH_TEXT < q.waiting, q, out)

@@ -41,31 +41,20 @@ module _ (m z : Line) (s : List ℕ) (i : ℕ) where
 pub no_digit_lem : (w j : ℕ) → 8 ≤ j → w < 2 ^ 32 → 48 ≡ digit_at w j
 no_digit_lem w j h l = rw (div-eq_of_lt (lt_of_lt_of_le l (pow_mono {i = 32} {j = 4 * j} (omega arith))))
 
-pub digits_begin : (m : Line) (w k : ℕ) → put_all m (digits w (k - 0)) ≡ put_all m (digits w k)
-digits_begin m w k = ap (λ (n : ℕ). put_all m (digits w n)) all
-  where
-    all : k - 0 ≡ k
-    all = omega arith
-
-module _ (m z : Line) (w k : ℕ) where
-  pub digits-on : (i : ℕ) (r : Line) → i < k → r ≡ added m (digit_at w (k - 1 - i)) → put_all m (digits w (k - i)) ≡ z → put_all r (digits w (k - (i + 1))) ≡ z
+module _ (m z : Line) (w : ℕ) where
+  pub digits-on : (j : ℕ) (r : Line) → 0 < j → r ≡ added m (digit_at w (j - 1)) → put_all m (digits w j) ≡ z → put_all r (digits w (j - 1)) ≡ z
   unfolding put_all digits
-  digits-on i r h e q =
-      ap (λ (x : Line). put_all x (digits w (k - (i + 1)))) e
-      ∙ (ap (λ (n : ℕ). put_all (added m (digit_at w (k - 1 - i))) (digits w n)) next
-      ∙ (sym (ap (λ (n : ℕ). put_all m (digits w n)) left) ∙ q))
+  digits-on j r h e q =
+      ap (λ (x : Line). put_all x (digits w (j - 1))) e ∙ (sym (ap (λ (n : ℕ). put_all m (digits w n)) left) ∙ q)
     where
-      next : k - (i + 1) ≡ k - 1 - i
-      next = omega arith
-
-      left : k - i ≡ suc (k - 1 - i)
+      left : j ≡ suc (j - 1)
       left = omega arith
 
-  pub digits-ended : (i : ℕ) → k ≤ i → put_all m (digits w (k - i)) ≡ z → m ≡ z
+  pub digits-ended : (j : ℕ) → j ≤ 0 → put_all m (digits w j) ≡ z → m ≡ z
   unfolding put_all digits
-  digits-ended i h q = sym (ap (λ (n : ℕ). put_all m (digits w n)) none) ∙ q
+  digits-ended j h q = sym (ap (λ (n : ℕ). put_all m (digits w n)) none) ∙ q
     where
-      none : k - i ≡ 0
+      none : j ≡ 0
       none = omega arith
 
 -- ---- decimal digits

@@ -1,12 +1,10 @@
-// A line of text, by value. Each function adds to the line; a byte for which there is no room is left out, and the
+// A line of text, by value. Each method adds to the line; a byte for which there is no room is left out, and the
 // longest line leaves room.
 #![tactic(auto)]
 
 ghost use Rattle.std.specs.Prelude.{◌≡◌, replicate};
 ghost use Rattle.text.specs.Lines as lines;
 ghost use Rattle.text.specs.Numbers as numbers;
-
-use bits::least;
 
 const ROOM: usize = 512;
 
@@ -16,101 +14,140 @@ pub struct Line {
     pub at: usize,
 }
 
-pub fn empty() -> Line
-    ensures { result ≡ record { bytes = replicate 512 0; at = 0 } }
-{
-    Line {
-        bytes: [0; ROOM],
-        at: 0,
+impl Line {
+    pub fn empty() -> Self
+        ensures { result ≡ record { bytes = replicate 512 0; at = 0 } }
+    {
+        Self {
+            bytes: [0; ROOM],
+            at: 0,
+        }
     }
-}
 
-pub fn byte(l: Line, b: u8) -> Line
-    ensures extends { lines.Extends l result }
-    ensures value { result ≡ lines.added l b }
-{
-    let mut m = l;
-    let at = l.at;
-    if at < ROOM {
-        m.bytes[at] = b;
-        m.at = at + 1;
-        m
-    } else {
-        m
+    pub fn byte(self, b: u8) -> Self
+        ensures extends { lines.Extends self result }
+        ensures value { result ≡ lines.added self b }
+    {
+        let mut line = self;
+        if line.at < ROOM {
+            line.bytes[line.at] = b;
+            line.at += 1;
+        }
+        line
     }
-}
 
-pub fn put(l: Line, text: &[u8]) -> Line
-    ensures extends { lines.Extends l result }
-    ensures value { result ≡ lines.put_all l text.now }
-{
-    let mut m = l;
-    for i in 0..text.len() {
-        m = byte(m, text[i]);
+    pub fn put(self, text: &[u8]) -> Self
+        ensures extends { lines.Extends self result }
+        ensures value { result ≡ lines.put_all self text.now }
+    {
+        let mut line = self;
+        for b in text {
+            line = line.byte(*b);
+        }
+        line
     }
-    m
-}
 
-// n spaces.
-#[tactic(auto, using(crate::proofs::Extending::extends_refl, crate::proofs::Extending::extends_trans))]
-fn spaces(l: Line, n: usize) -> Line
-    ensures { lines.Extends l result }
-{
-    let mut m = l;
-    for i in 0..n {
-        m = byte(m, b' ');
+    // n spaces.
+    #[tactic(auto, using(crate::proofs::Extending::extends_refl, crate::proofs::Extending::extends_trans))]
+    fn spaces(self, n: usize) -> Self
+        ensures { lines.Extends self result }
+    {
+        let mut line = self;
+        for _ in 0..n {
+            line = line.byte(b' ');
+        }
+        line
     }
-    m
-}
 
-fn less(a: usize, b: usize) -> usize {
-    if a < b {
-        return 0;
+    // On to a column, by two spaces at least.
+    #[tactic(auto, using(crate::proofs::Extending::extends_refl, crate::proofs::Extending::extends_trans))]
+    pub fn column(self, to: usize) -> Self
+        ensures { lines.Extends self result }
+    {
+        let line = self.spaces(2);
+        line.spaces(to.saturating_sub(line.at))
     }
-    a - b
-}
 
-// On to a column, by two spaces at least.
-#[tactic(auto, using(crate::proofs::Extending::extends_refl, crate::proofs::Extending::extends_trans))]
-pub fn column(l: Line, to: usize) -> Line
-    ensures { lines.Extends l result }
-{
-    let m = spaces(l, 2);
-    spaces(m, less(to, m.at))
-}
-
-// Copies the text to the start of a row and says how long it is.
-pub fn copied(l: Line, row: &mut [u8]) -> usize
-    ensures { lines.Copied l row.old result row.new }
-{
-    let bytes = l.bytes;
-    let n = least(least(l.at, ROOM), row.len());
-    for i in 0..n {
-        row[i] = bytes[i];
+    // Copies the text to the start of a row and says how long it is.
+    pub fn copied(self, row: &mut [u8]) -> usize
+        ensures { lines.Copied self row.old result row.new }
+    {
+        let n = self.at.min(ROOM).min(row.len());
+        row[..n].copy_from_slice(&self.bytes[..n]);
+        n
     }
-    n
-}
 
-// ---- numbers
+    // ---- numbers
 
-pub fn decimal(l: Line, n: u64) -> Line
-    ensures extends { lines.Extends l result }
-    ensures value { result ≡ lines.put_all l (numbers.decimal n) }
-{
-    let mut digits = [0u8; 20];
-    let k = io::decimal(n, &mut digits);
-    put(l, &digits[..k])
-}
+    pub fn decimal(self, n: u64) -> Self
+        ensures extends { lines.Extends self result }
+        ensures value { result ≡ lines.put_all self (numbers.decimal n) }
+    {
+        let mut digits = [0u8; 20];
+        let k = io::decimal(n, &mut digits);
+        self.put(&digits[..k])
+    }
 
-// At the right of a width.
-#[tactic(auto, using(crate::proofs::Extending::extends_refl, crate::proofs::Extending::extends_trans))]
-pub fn right(l: Line, n: u64, width: usize) -> Line
-    ensures { lines.Extends l result }
-{
-    let mut digits = [0u8; 20];
-    let k = io::decimal(n, &mut digits);
-    let m = spaces(l, less(width, k));
-    put(m, &digits[..k])
+    // At the right of a width.
+    #[tactic(auto, using(crate::proofs::Extending::extends_refl, crate::proofs::Extending::extends_trans))]
+    pub fn right(self, n: u64, width: usize) -> Self
+        ensures { lines.Extends self result }
+    {
+        let mut digits = [0u8; 20];
+        let k = io::decimal(n, &mut digits);
+        self.spaces(width.saturating_sub(k)).put(&digits[..k])
+    }
+
+    // The lowest k hex digits of a word.
+    pub fn digits(self, w: u32, k: u32) -> Self
+        ensures extends { lines.Extends self result }
+        ensures value { result ≡ lines.put_all self (numbers.digits w k) }
+    {
+        let mut line = self;
+        for j in (0..k).rev() {
+            line = line.byte(digit_at(w, j));
+        }
+        line
+    }
+
+    // The same, told as hex digits.
+    #[tactic(auto, using(crate::proofs::Extending::extends_trans))]
+    pub fn hex(self, w: u32, k: u32) -> Self
+        ensures extends { lines.Extends self result }
+        ensures value { result ≡ lines.put_all self (numbers.hex w k) }
+    {
+        self.put(b"0x").digits(w, k)
+    }
+
+    // ---- a part of a table; each part ends with a bar
+
+    // A byte, or the number in place of a percent sign.
+    #[tactic(auto, using(crate::proofs::Extending::extends_refl, crate::proofs::Extending::extends_trans))]
+    fn said_byte(self, b: u8, n: u64) -> Self
+        ensures { lines.Extends self result }
+    {
+        if b == b'%' {
+            return self.decimal(n);
+        }
+        self.byte(b)
+    }
+
+    // Part `which` of a table, with the number in place of each percent sign.
+    #[tactic(auto, using(crate::proofs::Extending::extends_refl, crate::proofs::Extending::extends_trans))]
+    pub fn said(self, table: &[u8], which: u32, n: u64) -> Self
+        ensures { lines.Extends self result }
+    {
+        let mut line = self;
+        let mut part: u32 = 0;
+        for b in table {
+            if *b == b'|' {
+                part = part.wrapping_add(1);
+            } else if part == which {
+                line = line.said_byte(*b, n);
+            }
+        }
+        line
+    }
 }
 
 // Digit j of a word, counted from the lowest.
@@ -120,64 +157,10 @@ fn digit_at(w: u32, j: u32) -> u8
     if 8 <= j {
         return b'0';
     }
-    let places = 4 * j;
-    let d = ((w >> places) % 16) as u8;
-    if d < 10 {
-        return 48 + d;
+    let digit = ((w >> (4 * j)) % 16) as u8;
+    if digit < 10 {
+        b'0' + digit
+    } else {
+        b'A' - 10 + digit
     }
-    55 + d
-}
-
-// The lowest k hex digits of a word.
-pub fn digits(l: Line, w: u32, k: u32) -> Line
-    ensures extends { lines.Extends l result }
-    ensures value { result ≡ lines.put_all l (numbers.digits w k) }
-{
-    let mut m = l;
-    for i in 0..k {
-        let j = k - 1 - i;
-        m = byte(m, digit_at(w, j));
-    }
-    m
-}
-
-// The same, told as hex digits.
-#[tactic(auto, using(crate::proofs::Extending::extends_trans))]
-pub fn hex(l: Line, w: u32, k: u32) -> Line
-    ensures extends { lines.Extends l result }
-    ensures value { result ≡ lines.put_all l (numbers.hex w k) }
-{
-    let m = put(l, b"0x");
-    digits(m, w, k)
-}
-
-// ---- a part of a table; each part ends with a bar
-
-// A byte, or the number in place of a percent sign.
-#[tactic(auto, using(crate::proofs::Extending::extends_refl, crate::proofs::Extending::extends_trans))]
-fn said_byte(l: Line, b: u8, n: u64) -> Line
-    ensures { lines.Extends l result }
-{
-    if b == b'%' {
-        return decimal(l, n);
-    }
-    byte(l, b)
-}
-
-// Part `which` of a table, with the number in place of each percent sign.
-#[tactic(auto, using(crate::proofs::Extending::extends_refl, crate::proofs::Extending::extends_trans))]
-pub fn said(l: Line, table: &[u8], which: u32, n: u64) -> Line
-    ensures { lines.Extends l result }
-{
-    let mut m = l;
-    let mut part: u32 = 0;
-    for i in 0..table.len() {
-        let b = table[i];
-        if b == b'|' {
-            part = std::num::wrapping_add_u32(part, 1);
-        } else if part == which {
-            m = said_byte(m, b, n);
-        }
-    }
-    m
 }

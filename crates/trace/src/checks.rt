@@ -4,7 +4,7 @@ use super::{
 };
 use expected::Expected;
 use model::Answer;
-use text::{Line, byte, put, said};
+use text::Line;
 
 // What is expected, as an item has it: whether code and word are expected, code, word in four bytes, whether lines are, lines.
 fn decoded(x: u64) -> Expected {
@@ -23,24 +23,24 @@ fn with_lines(l: Line, x: Expected, up: u8) -> Line {
     if !x.lined {
         return l;
     }
-    let a = said(l, b"lines|, lines", x.answered as u32, 0);
+    let a = l.said(b"lines|, lines", x.answered as u32, 0);
     wording::lines_up(a, up, b" none")
 }
 
 fn with_word(l: Line, w: u32) -> Line {
-    text::hex(put(l, b"the word "), w, 8)
+    l.put(b"the word ").hex(w, 8)
 }
 
 // Which line expects what.
 fn wanted(line: u64, x: Expected) -> Line {
-    let a = said(text::empty(), b"line %: expected ", 0, line);
+    let a = Line::empty().said(b"line %: expected ", 0, line);
     if !x.answered {
         return with_lines(a, x, x.lines);
     }
     if x.code == 0 {
         return with_lines(with_word(a, x.word), x, x.lines);
     }
-    with_lines(said(a, b"refused %", 0, x.code as u64), x, x.lines)
+    with_lines(a.said(b"refused %", 0, x.code as u64), x, x.lines)
 }
 
 fn answer(l: Line, p: Progress, space: &[u8]) -> Line {
@@ -60,16 +60,16 @@ fn answer(l: Line, p: Progress, space: &[u8]) -> Line {
 fn complaint(p: Progress, line: u64, x: Expected, space: &[u8]) -> Line {
     let a = wanted(line, x);
     if p.of == NOTHING {
-        return put(a, b"; there is no step above\n");
+        return a.put(b"; there is no step above\n");
     }
     if p.of == BEHIND {
-        return said(a, b"; the script stopped before, at byte %\n", 0, p.bytes);
+        return a.said(b"; the script stopped before, at byte %\n", 0, p.bytes);
     }
-    let b = put(a, b"; came ");
+    let b = a.put(b"; came ");
     if x.answered {
-        return byte(with_lines(answer(b, p, space), x, p.lines), b'\n');
+        return with_lines(answer(b, p, space), x, p.lines).byte(b'\n');
     }
-    byte(with_lines(b, x, p.lines), b'\n')
+    with_lines(b, x, p.lines).byte(b'\n')
 }
 
 // ---- what is expected
@@ -117,8 +117,7 @@ pub(crate) fn expected(p: Progress, line: u64, x: u64, space: &[u8], out: &[u8])
         return checked(p, line, x, space, out);
     }
     if p.line != 0 {
-        let l = put(
-            wanted(line, decoded(x)),
+        let l = wanted(line, decoded(x)).put(
             b"; the record above isn't whole yet, and one line expects its answer already\n",
         );
         return failed(p, l, out);

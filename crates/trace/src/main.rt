@@ -114,7 +114,7 @@ fn flushed(p: Progress, out: &[u8]) -> Progress {
 fn stored(p: Progress, l: Line, out: &mut [u8]) -> Progress {
     let from = least(p.text, out.len());
     let mut q = p;
-    q.text = std::num::wrapping_add_usize(from, text::copied(l, &mut out[from..]));
+    q.text = std::num::wrapping_add_usize(from, l.copied(&mut out[from..]));
     q
 }
 
@@ -221,7 +221,7 @@ fn stop(p: Progress, code: u8, space: &[u8], out: &mut [u8]) -> Progress {
     }
     if (code == 0) | (p.failed & (code == 6)) {
         let why = bits::pick_u32(p.failed, 2, 1);
-        return stopped(p, text::empty(), why, space, out);
+        return stopped(p, Line::empty(), why, space, out);
     }
     let mut q = p;
     q.of = UNREAD;
@@ -281,8 +281,8 @@ fn items_ended(p: Progress, left: usize, space: &[u8], out: &mut [u8]) -> Progre
     }
     q = unsaid_told(q, space);
     q.going = false;
-    let a = text::said(text::empty(), b"% expectations checked, ", 0, p.checked);
-    stored(q, text::said(a, b"% failed\n", 0, p.failures), out)
+    let a = Line::empty().said(b"% expectations checked, ", 0, p.checked);
+    stored(q, a.said(b"% failed\n", 0, p.failures), out)
 }
 
 // The item of so many bytes at a place.

@@ -1,7 +1,7 @@
 use Rattle.std.proofs.Common.{ap, ◌∙◌, arith}
 use Rattle.text.specs.Lines.{put_all}
 use Rattle.text.proofs.Putting.{decimal_digits_lem}
-use Rattle.text.proofs.decimal.Goals as goal
+use Rattle.text.proofs.Line.decimal.Goals as goal
 
 pub returns-clause-value : goal.returns-clause-value
 returns-clause-value c =
