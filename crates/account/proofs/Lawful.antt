@@ -1,4 +1,5 @@
 -- The laws of an account: each is a fact about a few tests, looked at case by case.
+use Rattle.std.proofs.Common.{Some, None, Ok, Err}
 use mathlib.Core.Path.{◌≡◌, refl, sym}
 use mathlib.Core.Bool.{Bool, true, false, not, ◌&&◌, ◌||◌, true≢false}
 use mathlib.Core.List.{List}
@@ -17,8 +18,6 @@ use Rattle.model.specs.Codes.{is_output}
 use Rattle.model.specs.Step.{refusal, may_start, may_end, may_receive, receive_error_in_range}
 use Rattle.model.specs.Script.{reading, decoded, part, is_tag, body_length, number16, byte_at}
 use Rattle.model.specs.declared.Core.{Core}
-use Rattle.model.specs.declared.Reading.{Reading}
-use Rattle.model.specs.declared.Reading.TheVariants.{End, Malformed, Found}
 use Rattle.model.specs.declared.Register.{Register}
 use Rattle.model.specs.declared.Register.TheVariants.{Mcr, Msr, Tsr, Rfr, Ier, Esr, Btr, Ti, Tdt, Tdl, Tdh, Ri, Rdt, Rdl, Rdh, Fmr, Fm1r, Fs1r, Ffa1r, Fa1r, R1, R2, Absent}
 use Rattle.model.specs.declared.Step as steps
@@ -27,6 +26,8 @@ use Rattle.account.specs.Places.{place_of}
 use Rattle.account.specs.Reasons.{of_step, of_offset, of_write, of_bus, of_start, of_reception, of_outcome, of_frame, of_error}
 use Rattle.account.specs.Faults.{kind_of}
 use Rattle.account.specs.Laws.{codes_of, reason_of, says, says_of_record, Placed, Reasoned, Faulty}
+use Rattle.model.specs.Script.{Reading}
+use Rattle.model.specs.declared.Refusal.TheVariants.{Short, UnknownTag, WrongLength}
 
 -- ---- registers
 
@@ -262,19 +263,19 @@ reasoned c e = record { coded = λ h. (fits c e h).0; holds = λ h. (fits c e h)
 
 -- ---- records that can't be read
 
-same_code : (j k : ℕ) → Malformed j ≡ Malformed k → j ≡ k
+same_code : (j k : ℕ) → Err j ≡ Err k → j ≡ k
 same_code j k h = cc
 
-no_end : (k : ℕ) → End ≡ Malformed k → ⊥
+no_end : (k : ℕ) → (Ok None) ≡ Err k → ⊥
 no_end k h = let z : ◌≡◌ {A = ℕ} 0 1 = cc in omega arith
 
-no_step_lem : (e : steps.Step) (q k : ℕ) → Found e q ≡ Malformed k → ⊥
+no_step_lem : (e : steps.Step) (q k : ℕ) → Ok (Some (e, q)) ≡ Err k → ⊥
 no_step_lem e q k h = let z : ◌≡◌ {A = ℕ} 0 1 = cc in omega arith
 
 abbrev read : Bool → Bool → Bool → Bool → Bool → steps.Step → ℕ → Reading
 read ended short tag same few e q =
-    pick ended End
-    (pick short (Malformed 6) (pick (not tag) (Malformed 7) (pick (not same) (Malformed 8) (pick few (Malformed 6) (Found e q)))))
+    pick ended (Ok None)
+    (pick short (Err Short) (pick (not tag) (Err UnknownTag) (pick (not same) (Err WrongLength) (pick few (Err Short) (Ok (Some (e, q)))))))
 
 abbrev kind_by : ℕ → Bool → ℕ
 kind_by k whole = pick (eqb k 8) 2 (pick (eqb k 7) 3 (one whole))
@@ -284,7 +285,7 @@ record_says short whole tag same few n =
     (eqb n 0 && short) || (eqb n 1 && same && few) || (eqb n 2 && tag && not same) || (eqb n 3 && whole && not tag)
 
 of_record : (ended short tag same few : Bool) (e : steps.Step) (q k : ℕ)
-    → read ended short tag same few e q ≡ Malformed k
+    → read ended short tag same few e q ≡ Err k
     → record_says short (not short) tag same few (kind_by k (not short)) ≡ true
 of_record true short tag same few e q k h = absurd (no_end k h)
 of_record false true tag same few e q k h = rw (← same_code 6 k h)

@@ -1,7 +1,7 @@
 -- What the numbers of an account promise: a register's number leads back to its offset, the reason for a refusal belongs to
 -- the code that is given and is true, and what is said of a record that can't be read is true.
 -- Document 01: "Register map", "Refusal numbers", "Bench script".
-use Rattle.std.specs.Prelude.{◌≡◌, Bool, true, false, not, ◌&&◌, ◌||◌, List, [], ◌∷◌, ℕ, ◌+◌, ◌*◌, ◌%◌, eqb, ltb, leb, length, get_or}
+use Rattle.std.specs.Prelude.{◌≡◌, Bool, true, false, not, ◌&&◌, ◌||◌, List, [], ◌∷◌, ℕ, ◌+◌, ◌*◌, ◌%◌, eqb, ltb, leb, length, get_or, Err}
 use Rattle.base.specs.Base.{bit, bits}
 use Rattle.model.specs.Queue.{is_empty}
 use Rattle.model.specs.Control.{is_sleep, is_normal, epvf, boff, lbkm, silm}
@@ -13,7 +13,6 @@ use Rattle.model.specs.Script.{reading, is_tag, body_length, number16, byte_at}
 use Rattle.account.specs.Accesses as accesses
 use Rattle.model.specs.declared.Core.{Core}
 use Rattle.model.specs.declared.Frame.{Frame}
-use Rattle.model.specs.declared.Reading.TheVariants.{Malformed}
 use Rattle.model.specs.declared.Register.{Register}
 use Rattle.model.specs.declared.Step as steps
 use Rattle.model.specs.declared.Step.TheVariants.{Reset, Read, Write, Idle, BitTimes, Activity, Start, Outcome, Receive, ReceiveError}
@@ -106,4 +105,4 @@ says_of_record s n =
 
 -- s is the script from the record on; what is said of a record that can't be read is so
 pub record Faulty (s : List ℕ) (k : ℕ) : Type 0 where
-  pub holds : reading s 0 ≡ Malformed k → says_of_record s (kind_of k (length s)) ≡ true
+  pub holds : reading s 0 ≡ Err k → says_of_record s (kind_of k (length s)) ≡ true

@@ -1,4 +1,5 @@
 -- Turn after turn: with a good opening the turns are those of a script; any other is refused as soon as it can be told.
+use Rattle.std.proofs.Common.{Err}
 use mathlib.Core.Bool.{Bool, true, false, false≢true}
 use mathlib.Core.Path.{◌≡◌, refl, sym, ap, subst, ◌∙◌}
 use mathlib.Core.List.{List, [], ◌∷◌, ◌++◌, append-nil, append_assoc, flatten}
@@ -12,7 +13,6 @@ use borrow.Author.Tests.{lt-ltb, le-ltb, ltb-true, ltb-false}
 use Rattle.base.specs.Base.{pick}
 use Rattle.model.specs.Lesson.{opens, ends_with, lesson_at, lesson_replay}
 use Rattle.model.specs.Script.{reply, reply_of, replayed, record_at, reading, stops, after_record, begun, advanced, times, Progress, replay}
-use Rattle.model.specs.declared.Reading.TheVariants.{Malformed}
 use Rattle.model.specs.Scripts.{goes_on, Fit}
 use Rattle.model.specs.Step.{lines_of}
 use Rattle.model.specs.declared.Controller.{Controller}
@@ -23,6 +23,7 @@ use Rattle.pieces.specs.declared.Position.{Position}
 use Rattle.pieces.specs.declared.Turn as pieces
 use Rattle.pieces.proofs.Running as running
 use Rattle.lesson.specs.Turns.{refusal, refused_turn, lesson_piece, sent_by, after_turn, run, Turns}
+use Rattle.model.specs.declared.Refusal.TheVariants.{Short}
 
 -- ---- under three bytes
 
@@ -58,7 +59,7 @@ none : (z : Controller) (space : ℕ) → replay z [] space ≡ ended z
 unfolding advanced after_record record_at replayed reading reply_of
 none z space = ends-first z [] space (ended z) refl refl
 
-cut_short : (z : Controller) (s : List ℕ) (space : ℕ) → reading s 0 ≡ Malformed 6 → replay z s space ≡ cut z space
+cut_short : (z : Controller) (s : List ℕ) (space : ℕ) → reading s 0 ≡ Err Short → replay z s space ≡ cut z space
 unfolding advanced after_record record_at replayed reply_of reply
 cut_short z s space h = go (ltb space 9) refl
   where

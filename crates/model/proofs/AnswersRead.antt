@@ -1,5 +1,6 @@
 -- A reply is read as its answer wherever it stands, what is read stands there as its reply, and the replies of steps and scripts
 -- read back as their answers.
+use Rattle.std.proofs.Common.{Ok, Err}
 use mathlib.Core.Bool.{Bool, true, false, not, ◌||◌}
 use mathlib.Core.Path.{◌≡◌, refl, sym, ap, ◌∙◌}
 use mathlib.Core.List.{List, [], ◌∷◌, ◌++◌, append_assoc, append-nil}
@@ -23,8 +24,6 @@ use Rattle.model.specs.declared.Answer.{Answer}
 use Rattle.model.specs.declared.Controller.{Controller}
 use Rattle.model.specs.declared.Replay as declared
 use Rattle.model.specs.declared.Replayed.{Replayed}
-use Rattle.model.specs.declared.ReplyReading.{ReplyReading}
-use Rattle.model.specs.declared.ReplyReading.TheVariants.{Malformed, Said}
 use Rattle.model.specs.declared.Step as steps
 use Rattle.model.proofs.Parts.{left_shift, byte_shift, number_shift}
 use Rattle.model.proofs.Readings.{record-codes}
@@ -33,6 +32,11 @@ use Rattle.model.proofs.Replays.{replays}
 use Rattle.model.proofs.Reached.{step-in_range}
 use Rattle.model.proofs.FromAnywhere.{answered-range}
 use Rattle.model.proofs.WordRange.{word_small}
+use Rattle.model.specs.Replies.{ReplyReading}
+use Rattle.model.specs.declared.Refusal.TheVariants.{Short, UnknownTag, WrongLength}
+use Rattle.std.specs.Result.{result_unwrap_or}
+use Rattle.model.specs.declared.Refusal.{Refusal}
+use Rattle.model.proofs.RefusalNumbers.{refusal_of, refusal_back}
 
 -- ---- the codes of a reading
 
@@ -48,11 +52,11 @@ reply-codes s p = record {
 }
 
 abbrev numbered : List ℕ → ReplyReading
-numbered l = pick (eqb (byte_at l 0) 1) (Malformed (byte_at l 1)) (Said (record { code = byte_at l 2; lines = byte_at l 3; word = byte_at l 4 }) (byte_at l 1))
+numbered l = pick (eqb (byte_at l 0) 1) (Err (refusal_of (byte_at l 1))) (Ok ((record { code = byte_at l 2; lines = byte_at l 3; word = byte_at l 4 }), (byte_at l 1)))
 
 numbered-back : (x : ReplyReading) → numbered (reply_numbers x) ≡ x
-numbered-back (Malformed k) = refl
-numbered-back (Said a q) = refl
+numbered-back (Err r) = ap (λ (q : Refusal). Err q) (refusal_back r)
+numbered-back (Ok (a, q)) = refl
 
 pub replies-apart : RepliesApart
 replies-apart = record { readings = λ x y h. sym (numbered-back x) ∙ ap numbered h ∙ numbered-back y }
@@ -64,11 +68,11 @@ answer_at s p = record { code = byte_at s (p + 3); lines = byte_at s (p + 4); wo
 
 -- what is read, from the tests in their order
 abbrev read : (h t n b : Bool) → Answer → ℕ → ReplyReading
-read h t n b a q = pick h (Malformed 6) (pick (not t) (Malformed 7) (pick (not n) (Malformed 8) (pick b (Malformed 6) (Said a q))))
+read h t n b a q = pick h (Err Short) (pick (not t) (Err UnknownTag) (pick (not n) (Err WrongLength) (pick b (Err Short) (Ok (a, q)))))
 
 abbrev shifted : ℕ → ReplyReading → ReplyReading
-shifted p (Malformed k) = Malformed k
-shifted p (Said a q) = Said a (p + q)
+shifted p (Err k) = Err k
+shifted p (Ok (a, q)) = Ok (a, (p + q))
 
 read_shifted : (h t n b : Bool) (a : Answer) (p q : ℕ) → read h t n b a (p + q) ≡ shifted p (read h t n b a q)
 read_shifted true t n b a p q = refl
@@ -96,7 +100,7 @@ reply-number n h =
     rw (a, b) (word_read n h)
 
 -- at the front
-read-front : (a : Answer) → a.word < 2 ^ 32 → (b : List ℕ) → reply_reading (reply_of_answer a ++ b) 0 ≡ Said a 9
+read-front : (a : Answer) → a.word < 2 ^ 32 → (b : List ℕ) → reply_reading (reply_of_answer a ++ b) 0 ≡ Ok (a, 9)
 unfolding reply_reading reply
 read-front a h b =
     let n : ℕ = length (reply_of_answer a ++ b) in
@@ -105,7 +109,7 @@ read-front a h b =
 pub reply-reads : (a : Answer) → ReplyReads a
 reply-reads a = record { read = anywhere }
   where
-    anywhere : a.word < 2 ^ 32 → (front behind : List ℕ) → reply_reading (front ++ (reply_of_answer a ++ behind)) (length front) ≡ Said a (length front + 9)
+    anywhere : a.word < 2 ^ 32 → (front behind : List ℕ) → reply_reading (front ++ (reply_of_answer a ++ behind)) (length front) ≡ Ok (a, (length front + 9))
     anywhere h f b =
         let s : List ℕ = f ++ (reply_of_answer a ++ b) in
         ap (reply_reading s) (sym (add-zero (length f)))
@@ -122,12 +126,12 @@ record Said-as (t n b : Bool) (d : Answer) (m : ℕ) (a : Answer) (q : ℕ) : Ty
   answer : d ≡ a
   place : m ≡ q
 
-only-said : (h t n b : Bool) (d : Answer) (m : ℕ) (a : Answer) (q : ℕ) → read h t n b d m ≡ Said a q → Said-as t n b d m a q
+only-said : (h t n b : Bool) (d : Answer) (m : ℕ) (a : Answer) (q : ℕ) → read h t n b d m ≡ Ok (a, q) → Said-as t n b d m a q
 only-said true t n b d m a q k = let z : ◌≡◌ {A = ℕ} 0 1 = cc in absurd (omega arith)
 only-said false false n b d m a q k = let z : ◌≡◌ {A = ℕ} 0 1 = cc in absurd (omega arith)
 only-said false true false b d m a q k = let z : ◌≡◌ {A = ℕ} 0 1 = cc in absurd (omega arith)
 only-said false true true true d m a q k = let z : ◌≡◌ {A = ℕ} 0 1 = cc in absurd (omega arith)
-only-said false true true false d m a q k = record { tag = refl; size = refl; body = refl; answer = cc; place = cc }
+only-said false true true false d m a q k = record { tag = refl; size = refl; body = refl; answer = ap (λ (x : ReplyReading). (result_unwrap_or x (d, m)).0) k; place = ap (λ (x : ReplyReading). (result_unwrap_or x (d, m)).1) k }
 
 -- nine bytes that begin as a reply are the reply of what they say
 nine_bytes_lem : (t l h code lines x y z u : ℕ) → t ≡ 0x81 → l + h * 256 ≡ 6 → l < 256 → x < 256 → y < 256 → z < 256 → u < 256
@@ -146,11 +150,11 @@ module _ (s : List ℕ) (p : ℕ) where
   abbrev Passed : Answer → ℕ → Type 0
   Passed a q = Said-as (is_reply_tag s p) (is_reply_length s p) (reply_short s p) (answer_at s p) (p + 9) a q
 
-  passed : (a : Answer) (q : ℕ) → reply_reading s p ≡ Said a q → Passed a q
+  passed : (a : Answer) (q : ℕ) → reply_reading s p ≡ Ok (a, q) → Passed a q
   unfolding reply_reading
   passed a q k = only-said (header_short s p) (is_reply_tag s p) (is_reply_length s p) (reply_short s p) (answer_at s p) (p + 9) a q k
 
-  place : (a : Answer) (q : ℕ) → reply_reading s p ≡ Said a q → (q ≡ p + 9) × (q ≤ length s)
+  place : (a : Answer) (q : ℕ) → reply_reading s p ≡ Ok (a, q) → (q ≡ p + 9) × (q ≤ length s)
   place a q k =
       let f : Passed a q = passed a q k in
       (sym f.place, omega (arith, f.place, ltb-false (length s - p) 9 f.body))
@@ -193,9 +197,9 @@ unfolding replies_of reply
 more_bytes [] = omega arith
 more_bytes (a ∷ l) = omega (arith, more_bytes l)
 
-nothing_there : (front : List ℕ) → reply_reading (front ++ []) (length front) ≡ Malformed 6
+nothing_there : (front : List ℕ) → reply_reading (front ++ []) (length front) ≡ Err Short
 nothing_there front =
-    replies-apart.readings (reply_reading (front ++ []) (length front)) (Malformed 6)
+    replies-apart.readings (reply_reading (front ++ []) (length front)) (Err Short)
     ((reply-codes (front ++ []) (length front)).empty (omega (arith, length-append front [])))
 
 -- they read back, from behind any bytes on

@@ -1,4 +1,5 @@
 -- Steps of callers and of scripts are in range, and a hardware reset makes every start the same.
+use Rattle.std.proofs.Common.{Some, None, Ok, Err}
 use mathlib.Core.List.{List, [], ◌∷◌, ◌++◌}
 use mathlib.Core.Path.{◌≡◌, refl, sym, subst, ap, ◌∙◌}
 use Prim.Native.Nat.{ℕ, zero, suc, ◌-◌, ◌/◌, ◌≤◌}
@@ -16,8 +17,6 @@ use Rattle.model.specs.Records.{Bytes, step_fields, FitWidths, AllFit}
 use Rattle.model.specs.Scripts.{answered_steps}
 use Rattle.model.specs.Anywhere.{OfCallers, OfScripts, FromState, HardwareReset, BehindReset, opened, OpensWithReset}
 use Rattle.model.specs.declared.Controller.{Controller}
-use Rattle.model.specs.declared.Reading.{Reading}
-use Rattle.model.specs.declared.Reading.TheVariants.{End, Malformed, Found}
 use Rattle.model.specs.declared.Step as steps
 use Rattle.model.specs.declared.Step.TheVariants.{Reset, Read, Write, Idle, BitTimes, Activity, Start, Outcome, Receive, ReceiveError}
 use Rattle.model.proofs.Computed.{everything}
@@ -27,6 +26,7 @@ use Rattle.model.proofs.Tied.{tied}
 use Rattle.model.proofs.Replays.{steps_on_lem, replays}
 use Rattle.model.proofs.Parts.{reading-behind, steps-rest}
 use Rattle.model.proofs.Recorded.{record_stands}
+use Rattle.model.specs.Script.{Reading}
 
 -- ---- callers
 
@@ -54,9 +54,9 @@ of_callers l = record { range = all-range l; reachable = λ h. reachable l (all-
 -- what is found at a place stands there as its record, and so fits
 found-fit : (s : List ℕ) (p : ℕ) → Bytes s → (l : ℕ → List steps.Step) → ((q : ℕ) → AllFit (l q)) → (r : Reading) → reading s p ≡ r → AllFit (steps_by r l)
 unfolding steps_by
-found-fit s p h l m End k = tt
-found-fit s p h l m (Malformed c) k = tt
-found-fit s p h l m (Found e q) k = (((record_stands s p).found h e q k).fits, m q)
+found-fit s p h l m (Ok None) k = tt
+found-fit s p h l m (Err c) k = tt
+found-fit s p h l m (Ok (Some (e, q))) k = (((record_stands s p).found h e q k).fits, m q)
 
 steps-fit : (n : ℕ) (s : List ℕ) (p : ℕ) → Bytes s → AllFit (steps_from n s p)
 unfolding steps_from
@@ -130,7 +130,7 @@ opened-bytes rest h (suc (suc zero)) = omega arith
 opened-bytes rest h (suc (suc (suc i))) = h i
 
 module _ (rest : List ℕ) where
-  opened-reading : reading (opened rest) 0 ≡ Found Reset 3
+  opened-reading : reading (opened rest) 0 ≡ Ok (Some (Reset, 3))
   unfolding reading body_length decoded
   opened-reading = reading-behind reset_record rest 0 refl
 

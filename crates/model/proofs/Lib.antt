@@ -1,3 +1,4 @@
+pub mod RefusalNumbers
 pub mod Spaces
 pub mod Bounded
 pub mod Orders

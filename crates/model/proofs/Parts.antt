@@ -1,4 +1,5 @@
 -- A record, the steps and the places in a part of a script: read from a place further on, and with more bytes behind.
+use Rattle.std.proofs.Common.{Some, None, Ok, Err}
 use mathlib.Core.Bool.{Bool, true, false, not, false≢true}
 use mathlib.Core.Path.{◌≡◌, refl, sym, ap, ◌∙◌}
 use mathlib.Core.List.{List, ◌∷◌, ◌++◌}
@@ -12,22 +13,23 @@ use borrow.Author.Tests.{ltb-false, leb-true, leb-false, le-ltb, le-leb, lt-leb}
 use Rattle.base.specs.Base.{pick}
 use Rattle.model.specs.Script.{byte_at, number16, body_length, decoded, part, reading, steps_by, steps_from, steps_of}
 use Rattle.model.specs.Scripts.{is_end, header_short, tag_unknown, length_wrong, body_short, behind, step_at, place_by, place_after}
-use Rattle.model.specs.declared.Reading.{Reading}
-use Rattle.model.specs.declared.Reading.TheVariants.{End, Malformed, Found}
 use Rattle.model.specs.declared.Step as steps
 use Rattle.model.proofs.Replays.{steps-more, steps_on_lem}
+use Rattle.model.specs.Script.{Reading}
+use Rattle.model.specs.declared.Refusal.TheVariants.{Short, UnknownTag, WrongLength}
+use Rattle.model.specs.Refusals.{code}
 
 -- ---- a record read in a part of the script
 
 -- a reading at a place that is counted from p bytes further to the front
 abbrev pub shifted : ℕ → Reading → Reading
-shifted p End = End
-shifted p (Malformed k) = Malformed k
-shifted p (Found e q) = Found e (p + q)
+shifted p (Ok None) = (Ok None)
+shifted p (Err k) = Err k
+shifted p (Ok (Some (e, q))) = Ok (Some (e, (p + q)))
 
 -- what is read, from the tests in their order
 abbrev read : (e h t w b : Bool) → steps.Step → ℕ → Reading
-read e h t w b d q = pick e End (pick h (Malformed 6) (pick t (Malformed 7) (pick w (Malformed 8) (pick b (Malformed 6) (Found d q)))))
+read e h t w b d q = pick e (Ok None) (pick h (Err Short) (pick t (Err UnknownTag) (pick w (Err WrongLength) (pick b (Err Short) (Ok (Some (d, q)))))))
 
 read_shifted : (e h t w b : Bool) (d : steps.Step) (p q : ℕ) → read e h t w b d (p + q) ≡ shifted p (read e h t w b d q)
 read_shifted true h t w b d p q = refl
@@ -81,11 +83,11 @@ module _ (s : List ℕ) (p q : ℕ) where
 
 -- readings that more bytes behind the script don't change
 abbrev pub settled : Reading → Bool
-settled End = false
-settled (Malformed k) = not (eqb k 6)
-settled (Found e q) = true
+settled (Ok None) = false
+settled (Err k) = not (eqb (code k) 6)
+settled (Ok (Some (e, q))) = true
 
-settled-header : (e h : Bool) (r : Reading) → settled (pick e End (pick h (Malformed 6) r)) ≡ true → (e ≡ false) × (h ≡ false)
+settled-header : (e h : Bool) (r : Reading) → settled (pick e (Ok None) (pick h (Err Short) r)) ≡ true → (e ≡ false) × (h ≡ false)
 settled-header true h r k = absurd (false≢true k)
 settled-header false true r k = absurd (false≢true k)
 settled-header false false r k = (refl, refl)
@@ -140,9 +142,9 @@ steps_shift zero s p q = refl
 steps_shift (suc n) s p q = rw (reading_shift s p q) (go (reading (drop p s) q) (steps_shift n s p))
   where
     go : (r : Reading) → ((q' : ℕ) → steps_from n s (p + q') ≡ steps_from n (drop p s) q') → steps_by (shifted p r) (steps_from n s) ≡ steps_by r (steps_from n (drop p s))
-    go End f = refl
-    go (Malformed k) f = refl
-    go (Found d q') f = ap (λ (l : List steps.Step). d ∷ l) (f q')
+    go (Ok None) f = refl
+    go (Err k) f = refl
+    go (Ok (Some (d, q'))) f = ap (λ (l : List steps.Step). d ∷ l) (f q')
 
 pub place_shift : (n : ℕ) (s : List ℕ) (p q : ℕ) → place_after n s (p + q) ≡ p + place_after n (drop p s) q
 unfolding place_after place_by
@@ -150,9 +152,9 @@ place_shift zero s p q = refl
 place_shift (suc n) s p q = rw (reading_shift s p q) (go (reading (drop p s) q) (place_shift n s p))
   where
     go : (r : Reading) → ((q' : ℕ) → place_after n s (p + q') ≡ p + place_after n (drop p s) q') → place_by (shifted p r) (p + q) (place_after n s) ≡ p + place_by r q (place_after n (drop p s))
-    go End f = refl
-    go (Malformed k) f = refl
-    go (Found d q') f = f q'
+    go (Ok None) f = refl
+    go (Err k) f = refl
+    go (Ok (Some (d, q'))) f = f q'
 
 -- the first steps of a script are those of fewer rounds
 pub steps-take : (k n : ℕ) (s : List ℕ) (p : ℕ) → take k (steps_from n s p) ≡ steps_from (min k n) s p
@@ -162,9 +164,9 @@ steps-take (suc k) zero s p = rw min-zero
 steps-take (suc k) (suc n) s p = rw suc-min-suc (go (reading s p) (steps-take k n s))
   where
     go : (r : Reading) → ((q : ℕ) → take k (steps_from n s q) ≡ steps_from (min k n) s q) → take (suc k) (steps_by r (steps_from n s)) ≡ steps_by r (steps_from (min k n) s)
-    go End f = refl
-    go (Malformed i) f = refl
-    go (Found d q) f = ap (λ (l : List steps.Step). d ∷ l) (f q)
+    go (Ok None) f = refl
+    go (Err i) f = refl
+    go (Ok (Some (d, q))) f = ap (λ (l : List steps.Step). d ∷ l) (f q)
 
 steps-enough : (k n : ℕ) (s : List ℕ) (p : ℕ) → length s - p ≤ n → steps_from (n + k) s p ≡ steps_from n s p
 steps-enough zero n s p h = rw add-zero
@@ -186,9 +188,9 @@ module _ (a b : List ℕ) where
     where
       go : (r : Reading) → reading a p ≡ r → ((q : ℕ) → steps_on q ≡ steps_from n a q ++ steps_on (stop_of n q))
           → steps_on p ≡ steps_by r (steps_from n a) ++ steps_on (place_after (length (steps_by r (steps_from n a))) a p)
-      go End e f = refl
-      go (Malformed k) e f = refl
-      go (Found d q) e f =
+      go (Ok None) e f = refl
+      go (Err k) e f = refl
+      go (Ok (Some (d, q))) e f =
           steps_on_lem (a ++ b) p ∙ rw (reading-behind a b p (rw e), e) (ap (λ (l : List steps.Step). d ∷ l) (f q))
 
   pub place_split : (n k p : ℕ) → place_after (length (steps_from n a p) + k) (a ++ b) p ≡ place_after k (a ++ b) (stop_of n p)
@@ -198,9 +200,9 @@ module _ (a b : List ℕ) where
     where
       go : (r : Reading) → reading a p ≡ r → ((q : ℕ) → place_after (length (steps_from n a q) + k) (a ++ b) q ≡ place_after k (a ++ b) (stop_of n q))
           → place_after (length (steps_by r (steps_from n a)) + k) (a ++ b) p ≡ place_after k (a ++ b) (place_after (length (steps_by r (steps_from n a))) a p)
-      go End e f = rw zero-add
-      go (Malformed i) e f = rw zero-add
-      go (Found d q) e f = rw (suc-add, reading-behind a b p (rw e), e) (f q)
+      go (Ok None) e f = rw zero-add
+      go (Err i) e f = rw zero-add
+      go (Ok (Some (d, q))) e f = rw (suc-add, reading-behind a b p (rw e), e) (f q)
 
   -- what is behind a place of the first part is a script of its own
   pub steps-rest : (p : ℕ) → p ≤ length a → steps_on p ≡ steps_of (drop p a ++ b)

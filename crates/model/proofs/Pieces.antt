@@ -1,4 +1,5 @@
 -- A script replayed in pieces gives what the whole script gives.
+use Rattle.std.proofs.Common.{Some, None, Ok, Err}
 use mathlib.Core.Bool.{Bool, true, false, not, ◌&&◌, ◌||◌, and-false, true≢false, false≢true}
 use mathlib.Core.Path.{◌≡◌, refl, sym, ap, ◌∙◌}
 use mathlib.Core.List.{List, [], ◌∷◌, ◌++◌, append_assoc, append-nil, flatten}
@@ -15,8 +16,6 @@ use Rattle.model.specs.Requests.{after}
 use Rattle.model.specs.Script.{byte_at, total, body_length, reading, reply, replayed, record_at, reply_of, stops, Progress, replay, steps_by, steps_from, steps_of, replies_to}
 use Rattle.model.specs.Scripts.{answerable, header_short, tag_unknown, length_wrong, body_short, answered_steps, last_answer, place_after, goes_on, followed, left_by, Resumes, after_piece, in_pieces, Fit, InPieces}
 use Rattle.model.specs.declared.Controller.{Controller}
-use Rattle.model.specs.declared.Reading.{Reading}
-use Rattle.model.specs.declared.Reading.TheVariants.{End, Malformed, Found}
 use Rattle.model.specs.declared.Replayed.{Replayed}
 use Rattle.model.specs.declared.Step as steps
 use Rattle.base.proofs.Choices.{and_r, pick_cases}
@@ -24,6 +23,8 @@ use Rattle.model.proofs.Fair.{after-append}
 use Rattle.model.proofs.Readings.{code_small, record-codes, Look, over, short, unknown, wrong, whole, look}
 use Rattle.model.proofs.Replays.{steps_on_lem, place-within, own-goes, replays}
 use Rattle.model.proofs.Parts.{shifted, reading_shift, settled, reading-behind, place_shift, steps-take, steps_on, steps_split, place_split, steps-rest}
+use Rattle.model.specs.Script.{Reading}
+use Rattle.model.specs.Refusals.{code}
 
 -- ---- a whole replay, from the steps that are answered and the record at which it stops
 
@@ -96,10 +97,10 @@ unfolding record_at replayed
 record_shift z s p q space h = rw (reading_shift s p q) (go (reading (drop p s) q) (ltb space 9) refl)
   where
     go : (r : Reading) (b : Bool) → ltb space 9 ≡ b → replayed (shifted p r) z (length s) (p + q) space ≡ placed p (replayed r z (length (drop p s)) q space)
-    go End b e = let n : length s ≡ p + length (drop p s) = omega (arith, length-drop p s) in rw n
-    go (Malformed k) b e = refl
-    go (Found d q') true e = rw e
-    go (Found d q') false e = rw e
+    go (Ok None) b e = let n : length s ≡ p + length (drop p s) = omega (arith, length-drop p s) in rw n
+    go (Err k) b e = refl
+    go (Ok (Some (d, q'))) true e = rw e
+    go (Ok (Some (d, q'))) false e = rw e
 
 replies-append : (z : Controller) (l m : List steps.Step) → replies_to z (l ++ m) ≡ replies_to z l ++ replies_to (after z l) m
 unfolding after replies_to
@@ -121,16 +122,16 @@ stops_alike : (d : Reading) (z : Controller) (n n' p space space' : ℕ) (f : �
     → ((replayed d z n p space).ended ≡ true → n' ≡ n) → length (reply_of (replayed d z n p space)) ≤ space'
     → (replayed d z n' p space' ≡ replayed d z n p space) × (steps_by d f ≡ [])
 unfolding replayed reply_of reply steps_by
-stops_alike End z n n' p space space' f h k e l = (rw (e refl), refl)
-stops_alike (Malformed i) z n n' p space space' f h k e l = (go (ltb space 9) refl, refl)
+stops_alike (Ok None) z n n' p space space' f h k e l = (rw (e refl), refl)
+stops_alike (Err i) z n n' p space space' f h k e l = (go (ltb space 9) refl, refl)
   where
-    go : (b : Bool) → ltb space 9 ≡ b → replayed (Malformed i) z n' p space' ≡ replayed (Malformed i) z n p space
+    go : (b : Bool) → ltb space 9 ≡ b → replayed (Err i) z n' p space' ≡ replayed (Err i) z n p space
     go true t = absurd (true≢false (rw t at k))
     go false t =
-        let m : eqb i 9 ≡ false = rw t at k in
+        let m : eqb (code i) 9 ≡ false = rw t at k in
         let s : 9 ≤ space' = rw (t, m) at l in
         rw (t, le-ltb space' 9 s)
-stops_alike (Found d q) z n n' p space space' f h k e l = absurd (go (ltb space 9) refl)
+stops_alike (Ok (Some (d, q))) z n n' p space space' f h k e l = absurd (go (ltb space 9) refl)
   where
     go : (b : Bool) → ltb space 9 ≡ b → ⊥
     go true t = true≢false (rw t at k)
@@ -140,13 +141,13 @@ stops_alike (Found d q) z n n' p space space' f h k e l = absurd (go (ltb space 
 stops_settled : (d : Reading) (z : Controller) (n p space : ℕ) → eqb (replayed d z n p space).code 9 ≡ false
     → goes_on (replayed d z n p space).ended (replayed d z n p space).code ≡ false → settled d ≡ true
 unfolding replayed
-stops_settled End z n p space k h = absurd (true≢false h)
-stops_settled (Malformed i) z n p space k h = go (ltb space 9) refl
+stops_settled (Ok None) z n p space k h = absurd (true≢false h)
+stops_settled (Err i) z n p space k h = go (ltb space 9) refl
   where
-    go : (b : Bool) → ltb space 9 ≡ b → not (eqb i 6) ≡ true
+    go : (b : Bool) → ltb space 9 ≡ b → not (eqb (code i) 6) ≡ true
     go true t = absurd (true≢false (rw t at k))
     go false t = ap not (rw t at h)
-stops_settled (Found d q) z n p space k h = refl
+stops_settled (Ok (Some (d, q))) z n p space k h = refl
 
 -- ---- a piece, and b behind it
 

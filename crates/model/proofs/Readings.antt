@@ -1,4 +1,5 @@
 -- One record of a script: the codes of a step are at most 5, and the codes 6 to 9 are given exactly when document 01 says.
+use Rattle.std.proofs.Common.{Some, None, Ok, Err}
 use mathlib.Core.Bool.{Bool, true, false, not, ◌&&◌, ◌||◌, true≢false, false≢true}
 use mathlib.Core.Path.{◌≡◌, refl, sym, ◌∙◌}
 use mathlib.Core.List.{List, [], ◌∷◌}
@@ -15,12 +16,12 @@ use Rattle.model.specs.Records.{step_numbers, reading_numbers}
 use Rattle.model.specs.Scripts.{is_end, no_space, header_short, tag_unknown, length_wrong, body_short, behind, step_at, ReadingCodes, Unchanged, Answers, Overwrites, RecordCodes}
 use Rattle.model.specs.declared.Controller.{Controller}
 use Rattle.model.specs.declared.Stepped.{Stepped}
-use Rattle.model.specs.declared.Reading.{Reading}
-use Rattle.model.specs.declared.Reading.TheVariants.{End, Malformed, Found}
 use Rattle.model.specs.declared.Replayed.{Replayed}
 use Rattle.model.specs.declared.Step as steps
 use Rattle.base.proofs.Choices.{and_l, and_r, pick_cases}
 use Rattle.model.proofs.Coded.{codes}
+use Rattle.model.specs.Script.{Reading}
+use Rattle.model.specs.declared.Refusal.TheVariants.{Short, UnknownTag, WrongLength}
 
 -- ---- the codes of a step
 
@@ -41,7 +42,7 @@ ordered e a h t w b z n p x q =
     (passed x q))))))
 
 in_order_lem : (e a h t w b : Bool) (z : Controller) (n p space : ℕ) (d : steps.Step) (q : ℕ) → ltb space 9 ≡ a
-    → replayed (pick e End (pick h (Malformed 6) (pick t (Malformed 7) (pick w (Malformed 8) (pick b (Malformed 6) (Found d q)))))) z n p space
+    → replayed (pick e (Ok None) (pick h (Err Short) (pick t (Err UnknownTag) (pick w (Err WrongLength) (pick b (Err Short) (Ok (Some (d, q)))))))) z n p space
     ≡ ordered e a h t w b z n p (step z d) q
 unfolding replayed
 in_order_lem true a h t w b z n p space d q k = refl
@@ -132,9 +133,9 @@ table false false false false false false z n p x q l = record {
 -- a record that is not answered, though there is space, has the code of its reading
 unread-code : (x : Reading) (z : Controller) (n p space : ℕ) → no_space space ≡ false → stops (replayed x z n p space).ended (replayed x z n p space).code ≡ true → (replayed x z n p space).code ≡ reading_code x
 unfolding replayed
-unread-code End z n p space h s = refl
-unread-code (Malformed k) z n p space h s = rw h
-unread-code (Found e q) z n p space h s = absurd (false≢true (rw (h, lt-leb 6 (step z e).code (omega (arith, code_small z e))) at s))
+unread-code (Ok None) z n p space h s = refl
+unread-code (Err k) z n p space h s = rw h
+unread-code (Ok (Some (e, q))) z n p space h s = absurd (false≢true (rw (h, lt-leb 6 (step z e).code (omega (arith, code_small z e))) at s))
 
 unread-at : (z : Controller) (s : List ℕ) (p space : ℕ) → no_space space ≡ false → stops (record_at z s p space).ended (record_at z s p space).code ≡ true → (record_at z s p space).code ≡ reading_code (reading s p)
 unfolding record_at
@@ -142,8 +143,8 @@ unread-at z s p space = unread-code (reading s p) z (length s) p space
 
 -- which case a reading is, from the tests in their order
 case_of : (e h t w b : Bool) (d : steps.Step) (q : ℕ)
-    → reading_numbers (pick e End (pick h (Malformed 6) (pick t (Malformed 7) (pick w (Malformed 8) (pick b (Malformed 6) (Found d q))))))
-    ≡ pick e (0 ∷ []) (pick (not h && not t && not w && not b) (2 ∷ q ∷ step_numbers d) (1 ∷ reading_code (pick e End (pick h (Malformed 6) (pick t (Malformed 7) (pick w (Malformed 8) (pick b (Malformed 6) (Found d q)))))) ∷ []))
+    → reading_numbers (pick e (Ok None) (pick h (Err Short) (pick t (Err UnknownTag) (pick w (Err WrongLength) (pick b (Err Short) (Ok (Some (d, q))))))))
+    ≡ pick e (0 ∷ []) (pick (not h && not t && not w && not b) (2 ∷ q ∷ step_numbers d) (1 ∷ reading_code (pick e (Ok None) (pick h (Err Short) (pick t (Err UnknownTag) (pick w (Err WrongLength) (pick b (Err Short) (Ok (Some (d, q)))))))) ∷ []))
 case_of true h t w b d q = refl
 case_of false true t w b d q = refl
 case_of false false true w b d q = refl
@@ -152,7 +153,7 @@ case_of false false false false true d q = refl
 case_of false false false false false d q = refl
 
 code_of : (e h t w b : Bool) (d : steps.Step) (q : ℕ)
-    → reading_code (pick e End (pick h (Malformed 6) (pick t (Malformed 7) (pick w (Malformed 8) (pick b (Malformed 6) (Found d q))))))
+    → reading_code (pick e (Ok None) (pick h (Err Short) (pick t (Err UnknownTag) (pick w (Err WrongLength) (pick b (Err Short) (Ok (Some (d, q))))))))
     ≡ pick e 0 (pick h 6 (pick t 7 (pick w 8 (pick b 6 0))))
 code_of true h t w b d q = refl
 code_of false true t w b d q = refl
@@ -209,11 +210,11 @@ record-codes z s p space = record {
 
 -- the reading at a place, with what each case says of the lengths
 pub data Look (s : List ℕ) (p : ℕ) : Reading → Type 0 where
-  over : length s ≤ p → Look s p End
-  short : p < length s → Look s p (Malformed 6)
-  unknown : p < length s → Look s p (Malformed 7)
-  wrong : p < length s → Look s p (Malformed 8)
-  whole : (e : steps.Step) (q : ℕ) → p + 3 ≤ q → q ≤ length s → Look s p (Found e q)
+  over : length s ≤ p → Look s p (Ok None)
+  short : p < length s → Look s p (Err Short)
+  unknown : p < length s → Look s p (Err UnknownTag)
+  wrong : p < length s → Look s p (Err WrongLength)
+  whole : (e : steps.Step) (q : ℕ) → p + 3 ≤ q → q ≤ length s → Look s p (Ok (Some (e, q)))
 
 -- cases of a choice
 pub look : (s : List ℕ) (p : ℕ) → Look s p (reading s p)

@@ -1,4 +1,5 @@
 -- A record says its step, and what is found at a place stands there as its record; a reply says its code, lines and word.
+use Rattle.std.proofs.Common.{Some, None, Ok, Err}
 use mathlib.Core.Bool.{Bool, true, false, false≢true}
 use mathlib.Core.Path.{◌≡◌, refl, sym, ap, subst, ◌∙◌}
 use mathlib.Core.List.{List, [], ◌∷◌, ◌++◌}
@@ -14,13 +15,17 @@ use Rattle.base.specs.Base.{pick}
 use Rattle.model.specs.Script.{byte_at, number16, is_tag, body_length, step_of, step_tag, step_values, decoded, part, reading, steps_by, steps_from, steps_of, reply}
 use Rattle.model.specs.Scripts.{is_end, header_short, tag_unknown, length_wrong, body_short, behind, step_at}
 use Rattle.model.specs.Records.{bytes_of, number_of, Bytes, Field, step_fields, FitWidths, field_bytes, step_body, record_of, reading_numbers, NumbersApart, Tags, RecordSays, IsRecord, RecordStands, script_of, AllFit, ScriptSays, sample_steps, Samples, ReplySays}
-use Rattle.model.specs.declared.Reading.{Reading}
-use Rattle.model.specs.declared.Reading.TheVariants.{End, Malformed, Found}
 use Rattle.model.specs.declared.Step as steps
 use Rattle.model.specs.declared.Step.TheVariants.{Reset, Read, Write, Idle, BitTimes, Activity, Start, Outcome, Receive, ReceiveError}
 use Rattle.base.proofs.Choices.{and_r}
 use Rattle.model.proofs.Parts.{reading_shift, steps-rest}
 use Rattle.model.proofs.Replays.{steps_on_lem}
+use Rattle.model.specs.Script.{Reading}
+use Rattle.model.specs.declared.Refusal.TheVariants.{Short, UnknownTag, WrongLength}
+use Rattle.std.specs.Result.{result_unwrap_or}
+use Rattle.std.specs.Prelude.{unwrap_or}
+use Rattle.model.specs.declared.Refusal.{Refusal}
+use Rattle.model.proofs.RefusalNumbers.{refusal_of, refusal_back}
 
 -- ---- numbers and their bytes
 
@@ -73,7 +78,7 @@ abbrev step_numbered : List ℕ → steps.Step
 step_numbered l = step_of (byte_at l 0) (drop 1 l)
 
 abbrev reading_of : List ℕ → Reading
-reading_of l = pick (eqb (byte_at l 0) 0) End (pick (eqb (byte_at l 0) 1) (Malformed (byte_at l 1)) (Found (step_numbered (drop 2 l)) (byte_at l 1)))
+reading_of l = pick (eqb (byte_at l 0) 0) (Ok None) (pick (eqb (byte_at l 0) 1) (Err (refusal_of (byte_at l 1))) (Ok (Some (step_numbered (drop 2 l), byte_at l 1))))
 
 step_back : (e : steps.Step) → step_of (step_tag e) (step_values e) ≡ e
 step_back Reset = refl
@@ -88,9 +93,9 @@ step_back (Receive x) = refl
 step_back (ReceiveError k n) = refl
 
 reading-back : (x : Reading) → reading_of (reading_numbers x) ≡ x
-reading-back End = refl
-reading-back (Malformed k) = refl
-reading-back (Found e q) = ap (λ (f : steps.Step). Found f q) (step_back e)
+reading-back (Ok None) = refl
+reading-back (Err r) = ap (λ (q : Refusal). Err q) (refusal_back r)
+reading-back (Ok (Some (e, q))) = ap (λ (f : steps.Step). Ok (Some (f, q))) (step_back e)
 
 pub numbers_apart : NumbersApart
 numbers_apart = record {
@@ -153,7 +158,7 @@ tags = record { known = tag-known; lengths = body_length_lem; each = tag-decoded
 
 -- ---- a record is read
 
-found_at : (s : List ℕ) → is_tag (byte_at s 0) ≡ true → number16 s 1 ≡ body_length (byte_at s 0) → 3 + body_length (byte_at s 0) ≤ length s → reading s 0 ≡ Found (step_at s 0) (behind s 0)
+found_at : (s : List ℕ) → is_tag (byte_at s 0) ≡ true → number16 s 1 ≡ body_length (byte_at s 0) → 3 + body_length (byte_at s 0) ≤ length s → reading s 0 ≡ Ok (Some ((step_at s 0), (behind s 0)))
 unfolding reading
 found_at s t n l =
     rw (lt-leb (length s) 0 (omega arith), le-ltb (length s - 0) 3 (omega arith), t, eq-eqb (number16 s 1) (body_length (byte_at s 0)) n, le-ltb (length s - 0) (3 + body_length (byte_at s 0)) (omega arith))
@@ -169,7 +174,7 @@ pub word_read : (n : ℕ) → n < 2 ^ 32 → n % 256 + n / 256 % 256 * 256 + (n 
 word_read n h = omega arith
 
 -- at the front of a script
-read-front : (e : steps.Step) → FitWidths (step_fields e) → (b : List ℕ) → reading (record_of e ++ b) 0 ≡ Found e (length (record_of e))
+read-front : (e : steps.Step) → FitWidths (step_fields e) → (b : List ℕ) → reading (record_of e ++ b) 0 ≡ Ok (Some (e, (length (record_of e))))
 unfolding body_length decoded field_bytes bytes_of
 read-front Reset h b = found_at (record_of Reset ++ b) refl refl (omega arith)
 read-front (Read o) h b = found_at (record_of (Read o) ++ b) refl refl (omega arith) ∙ rw (half_read o h.0)
@@ -193,7 +198,7 @@ record-says e = record {
     tag-byte : (e : steps.Step) → step_tag e < 256
     tag-byte e = for_tag (λ (t : ℕ). t < 256) (omega arith) (omega arith) (omega arith) (omega arith) (omega arith) (omega arith) (omega arith) (omega arith) (omega arith) (omega arith) (step_tag e) (tag-known e)
 
-    anywhere : FitWidths (step_fields e) → (front behind : List ℕ) → reading (front ++ (record_of e ++ behind)) (length front) ≡ Found e (length front + length (record_of e))
+    anywhere : FitWidths (step_fields e) → (front behind : List ℕ) → reading (front ++ (record_of e ++ behind)) (length front) ≡ Ok (Some (e, (length front + length (record_of e))))
     anywhere h a b =
         let s : List ℕ = a ++ (record_of e ++ b) in
         ap (reading s) (sym (add-zero (length a)))
@@ -313,13 +318,16 @@ record Found-as (h t w b : Bool) (d : steps.Step) (n : ℕ) (e : steps.Step) (q 
   place : n ≡ q
 
 only-found : (o h t w b : Bool) (d : steps.Step) (n : ℕ) (e : steps.Step) (q : ℕ)
-    → pick o End (pick h (Malformed 6) (pick t (Malformed 7) (pick w (Malformed 8) (pick b (Malformed 6) (Found d n))))) ≡ Found e q → Found-as h t w b d n e q
+    → pick {A = Reading} o (Ok None) (pick h (Err Short) (pick t (Err UnknownTag) (pick w (Err WrongLength) (pick b (Err Short) (Ok (Some (d, n))))))) ≡ Ok (Some (e, q)) → Found-as h t w b d n e q
 only-found true h t w b d n e q k = let z : ◌≡◌ {A = ℕ} 0 1 = cc in absurd (omega arith)
 only-found false true t w b d n e q k = let z : ◌≡◌ {A = ℕ} 0 1 = cc in absurd (omega arith)
 only-found false false true w b d n e q k = let z : ◌≡◌ {A = ℕ} 0 1 = cc in absurd (omega arith)
 only-found false false false true b d n e q k = let z : ◌≡◌ {A = ℕ} 0 1 = cc in absurd (omega arith)
 only-found false false false false true d n e q k = let z : ◌≡◌ {A = ℕ} 0 1 = cc in absurd (omega arith)
-only-found false false false false false d n e q k = record { header = refl; tag = refl; size = refl; body = refl; step = cc; place = cc }
+only-found false false false false false d n e q k = record { header = refl; tag = refl; size = refl; body = refl; step = ap (λ (x : Reading). (found x).0) k; place = ap (λ (x : Reading). (found x).1) k }
+  where
+    found : Reading → steps.Step × ℕ
+    found x = unwrap_or (result_unwrap_or x None) (d, n)
 
 pub bytes_drop : (n : ℕ) (l : List ℕ) → Bytes l → Bytes (drop n l)
 bytes_drop n l h i = rw (get_or-drop n l i 0) (h (n + i))
@@ -374,7 +382,7 @@ module _ (s : List ℕ) (p : ℕ) (h : Bytes s) where
       record-size : length (record_of (step_at s p)) ≡ 3 + size
       record-size = ap length record_is ∙ rw size-bytes (omega (arith, body-size))
 
-found_stands : (s : List ℕ) (p : ℕ) → Bytes s → (e : steps.Step) (q : ℕ) → reading s p ≡ Found e q → IsRecord s p e q
+found_stands : (s : List ℕ) (p : ℕ) → Bytes s → (e : steps.Step) (q : ℕ) → reading s p ≡ Ok (Some (e, q)) → IsRecord s p e q
 unfolding reading
 found_stands s p h e q k =
     let f : Found-as (header_short s p) (tag_unknown s p) (length_wrong s p) (body_short s p) (step_at s p) (behind s p) e q = only-found (is_end s p) (header_short s p) (tag_unknown s p) (length_wrong s p) (body_short s p) (step_at s p) (behind s p) e q k in

@@ -1,4 +1,5 @@
 -- A replay is the fold of the step: one round after another, up to the record at which it stops.
+use Rattle.std.proofs.Common.{Some, None, Ok, Err}
 use mathlib.Core.Bool.{Bool, true, false, ◌&&◌, true≢false, false≢true}
 use mathlib.Core.Path.{◌≡◌, refl, sym, ap, ◌∙◌, subst}
 use mathlib.Core.List.{List, [], ◌∷◌, ◌++◌, append_assoc}
@@ -14,14 +15,16 @@ use Rattle.model.specs.Requests.{after}
 use Rattle.model.specs.Script.{reading, reply, stayed, at_end, passed, replayed, record_at, reply_of, stops, Progress, begun, after_record, advanced, times, replay, steps_by, steps_from, steps_of, replies_to}
 use Rattle.model.specs.Scripts.{answered_steps, last_answer, place_by, place_after, Replays}
 use Rattle.model.specs.declared.Controller.{Controller}
-use Rattle.model.specs.declared.Reading.{Reading}
-use Rattle.model.specs.declared.Reading.TheVariants.{End, Malformed, Found}
 use Rattle.model.specs.declared.Replayed.{Replayed}
 use Rattle.model.specs.declared.Stepped.{Stepped}
 use Rattle.model.specs.declared.Replay as declared
 use Rattle.model.specs.declared.Step as steps
 use Rattle.base.proofs.Choices.{pick_cases}
 use Rattle.model.proofs.Readings.{code_small, record-codes, stop-place, Look, over, short, unknown, wrong, whole, look}
+use Rattle.model.specs.Script.{Reading}
+use Rattle.model.specs.Refusals.{code}
+use Rattle.model.specs.declared.Refusal.{Refusal}
+use Rattle.model.specs.declared.Refusal.TheVariants.{Short, UnknownTag, WrongLength}
 
 -- ---- rounds
 
@@ -145,7 +148,7 @@ module _ (s : List ℕ) (space : ℕ) where
     fits = λ k. omega arith;
   }
 
-  goes : (x y : Progress) (e : steps.Step) (q : ℕ) (l : List steps.Step) → reading s x.result.place ≡ Found e q → 9 ≤ room x
+  goes : (x y : Progress) (e : steps.Step) (q : ℕ) (l : List steps.Step) → reading s x.result.place ≡ Ok (Some (e, q)) → 9 ≤ room x
       → Outcome l (further x (step x.result.controller e) q) y → Outcome (e ∷ l) x y
   unfolding after replies_to place_after place_by
   goes x y e q l d h o = record {
@@ -193,27 +196,27 @@ module _ (s : List ℕ) (space : ℕ) where
   tight n x e a = ends n x (stayed x.result.controller x.result.place 9) e refl refl (omega arith) a
 
   -- a record that can't be read: its code, or 9
-  unread : (n : ℕ) (x : Progress) (k : ℕ) (b : Bool) → ltb (room x) 9 ≡ b → reading s x.result.place ≡ Malformed k
-      → stops false k ≡ true → eqb k 9 ≡ false → Outcome (ahead (suc n) x) x (times n (advanced s space) (after_record x (given x)))
+  unread : (n : ℕ) (x : Progress) (k : Refusal) (b : Bool) → ltb (room x) 9 ≡ b → reading s x.result.place ≡ Err k
+      → stops false (code k) ≡ true → eqb (code k) 9 ≡ false → Outcome (ahead (suc n) x) x (times n (advanced s space) (after_record x (given x)))
   unfolding record_at replayed reply_of reply steps_by
-  unread n x k true h e f g = tight n x (rw (e, h)) (none_ahead n x (Malformed k) e refl)
+  unread n x k true h e f g = tight n x (rw (e, h)) (none_ahead n x (Err k) e refl)
   unread n x k false h e f g =
-      ends n x (stayed x.result.controller x.result.place k) (rw (e, h)) f refl (rw g (ltb-false (room x) 9 h)) (none_ahead n x (Malformed k) e refl)
+      ends n x (stayed x.result.controller x.result.place (code k)) (rw (e, h)) f refl (rw g (ltb-false (room x) 9 h)) (none_ahead n x (Err k) e refl)
 
   share : (w : ℕ) → 9 ≤ space - w → (space - w) / 9 ≡ suc ((space - (w + 9)) / 9)
   share w m = omega arith
 
-  ahead_found : (n : ℕ) (x : Progress) (d : steps.Step) (q : ℕ) (a : Stepped) → reading s x.result.place ≡ Found d q → 9 ≤ room x → ahead (suc n) x ≡ d ∷ ahead n (further x a q)
+  ahead_found : (n : ℕ) (x : Progress) (d : steps.Step) (q : ℕ) (a : Stepped) → reading s x.result.place ≡ Ok (Some (d, q)) → 9 ≤ room x → ahead (suc n) x ≡ d ∷ ahead n (further x a q)
   unfolding steps_from steps_by
   ahead_found n x d q a e m = rw (e, share x.result.written m)
 
-  given-found : (x : Progress) (d : steps.Step) (q : ℕ) → reading s x.result.place ≡ Found d q → ltb (room x) 9 ≡ false
+  given-found : (x : Progress) (d : steps.Step) (q : ℕ) → reading s x.result.place ≡ Ok (Some (d, q)) → ltb (room x) 9 ≡ false
       → after_record x (given x) ≡ further x (step x.result.controller d) q
   unfolding record_at replayed
   given-found x d q e h = rw (e, h) (further_is x (step x.result.controller d) q (code_small x.result.controller d))
 
   -- a record is read: code 9, or its step is answered
-  found : (n : ℕ) (x : Progress) (d : steps.Step) (q : ℕ) (b : Bool) → ltb (room x) 9 ≡ b → reading s x.result.place ≡ Found d q
+  found : (n : ℕ) (x : Progress) (d : steps.Step) (q : ℕ) (b : Bool) → ltb (room x) 9 ≡ b → reading s x.result.place ≡ Ok (Some (d, q))
       → length s - q < n → ((x' : Progress) → Shown n x') → Outcome (ahead (suc n) x) x (times n (advanced s space) (after_record x (given x)))
   unfolding record_at replayed
   found n x d q true h e l ih = tight n x (rw (e, h)) (let m : room x / 9 ≡ 0 = omega (arith, ltb-true (room x) 9 h) in rw m)
@@ -226,10 +229,10 @@ module _ (s : List ℕ) (space : ℕ) where
   looked : (n : ℕ) (x : Progress) {r : Reading} → reading s x.result.place ≡ r → Look s x.result.place r
       → length s - x.result.place < suc n → ((x' : Progress) → Shown n x') → Outcome (ahead (suc n) x) x (times n (advanced s space) (after_record x (given x)))
   unfolding record_at replayed reply_of steps_by
-  looked n x e (over h) l ih = ends n x (at_end x.result.controller (length s)) (rw e) refl refl (omega arith) (none_ahead n x End e refl)
-  looked n x e (short h) l ih = unread n x 6 (ltb (room x) 9) refl e refl refl
-  looked n x e (unknown h) l ih = unread n x 7 (ltb (room x) 9) refl e refl refl
-  looked n x e (wrong h) l ih = unread n x 8 (ltb (room x) 9) refl e refl refl
+  looked n x e (over h) l ih = ends n x (at_end x.result.controller (length s)) (rw e) refl refl (omega arith) (none_ahead n x (Ok None) e refl)
+  looked n x e (short h) l ih = unread n x Short (ltb (room x) 9) refl e refl refl
+  looked n x e (unknown h) l ih = unread n x UnknownTag (ltb (room x) 9) refl e refl refl
+  looked n x e (wrong h) l ih = unread n x WrongLength (ltb (room x) 9) refl e refl refl
   looked n x e (whole d q i m) l ih = found n x d q (ltb (room x) 9) refl e (omega arith) ih
 
   -- with more rounds than bytes are left, the replay stops behind the steps that are answered

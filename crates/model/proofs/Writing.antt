@@ -1,4 +1,5 @@
 -- A step written is the record that reads as it, and a record read is written as the bytes that stood there; so are lists of steps.
+use Rattle.std.proofs.Common.{Some, None, Result, Ok, Err}
 use mathlib.Core.Bool.{Bool, true, false, not, ◌&&◌, ◌||◌, and-true}
 use mathlib.Core.Path.{◌≡◌, refl, sym, ap, ◌∙◌}
 use mathlib.Core.List.{List, [], ◌∷◌, ◌++◌, append_assoc}
@@ -15,8 +16,6 @@ use Rattle.model.specs.Records.{Bytes, Field, bytes_of, FitWidths, step_fields, 
 use Rattle.model.specs.Scripts.{place_by, place_after}
 use Rattle.model.specs.Reachable.{StepRange}
 use Rattle.model.specs.Writer.{step_said, wide_numbers, StepSaid, fit, write_code, record_written, written, too_large, WriteCodes, WrittenReads, ReadWrites, all_written, AllWritten, Rewritten}
-use Rattle.model.specs.declared.Reading.{Reading}
-use Rattle.model.specs.declared.Reading.TheVariants.{End, Malformed, Found}
 use Rattle.model.specs.declared.Step as steps
 use Rattle.model.specs.declared.WideStep as wide
 use Rattle.model.specs.declared.WideStep.TheVariants as wides
@@ -25,6 +24,11 @@ use Rattle.base.proofs.Choices.{and_l, and_r, pick-both, pick_cases, refused_if,
 use Rattle.model.proofs.Readings.{overwrites, Look, over, short, unknown, wrong, whole, look}
 use Rattle.model.proofs.Recorded.{tags, record-says, record_stands, script-says}
 use Rattle.model.proofs.FromAnywhere.{script-fit}
+use Rattle.std.specs.Result.{result_unwrap_or}
+use Rattle.model.specs.Refusals.{code_of}
+use Rattle.model.specs.Script.{Reading}
+use Rattle.model.specs.declared.Refusal.{Refusal}
+use Rattle.model.specs.declared.Refusal.TheVariants.{NoSpace, OutOfRange}
 
 -- ---- numbers that fit
 
@@ -89,50 +93,65 @@ swapped : (b : Bool) → ◌≡◌ {A = ℕ} (pick (not b) 0 5) (pick b 5 0)
 swapped true = refl
 swapped false = refl
 
+-- the code and the count of an answer
+code_written : (e : steps.Step) (space : ℕ) → write_code e space ≡ pick (ltb space (length (record_of e))) 9 (pick (fit (step_fields e)) 0 5)
+unfolding written
+code_written e space = go (ltb space (length (record_of e))) (fit (step_fields e))
+  where
+    go : (b c : Bool) → code_of (pick {A = Result ℕ Refusal} b (Err NoSpace) (pick c (Ok (length (record_of e))) (Err OutOfRange))) ≡ pick b 9 (pick c 0 5)
+    go true c = refl
+    go false true = refl
+    go false false = refl
+
+count_written : (e : steps.Step) (space : ℕ) → result_unwrap_or (written e space) 0 ≡ length (record_written e space)
+unfolding written record_written
+count_written e space = go (ltb space (length (record_of e))) (fit (step_fields e))
+  where
+    go : (b c : Bool) → result_unwrap_or (pick {A = Result ℕ Refusal} b (Err NoSpace) (pick c (Ok (length (record_of e))) (Err OutOfRange))) 0
+        ≡ length (pick (eqb (code_of (pick {A = Result ℕ Refusal} b (Err NoSpace) (pick c (Ok (length (record_of e))) (Err OutOfRange)))) 0) (record_of e) [])
+    go true c = refl
+    go false true = refl
+    go false false = refl
+
 -- 9, then 5
 code-order : (e : steps.Step) (space : ℕ) → StepRange e → write_code e space ≡ pick (ltb space (3 + body_length (step_tag e))) 9 (pick (too_large e) 5 0)
-unfolding write_code
-code-order e space h = rw (record-length e, fit-large e h, swapped (too_large e))
+code-order e space h = code_written e space ∙ rw (record-length e, fit-large e h, swapped (too_large e))
 
 -- code 0: there is space, and every number fits
 pub accepted : (e : steps.Step) (space : ℕ) → eqb (write_code e space) 0 ≡ true → (length (record_of e) ≤ space) × (fit (step_fields e) ≡ true)
-unfolding write_code
 accepted e space h =
-    let k = refused_if (ltb space (length (record_of e))) 9 (pick (fit (step_fields e)) 0 5) refl h in
+    let k = refused_if (ltb space (length (record_of e))) 9 (pick (fit (step_fields e)) 0 5) refl (rw (code_written e space) at h) in
     (ltb-false space (length (record_of e)) k.0, (refused_unless (fit (step_fields e)) 0 5 refl k.1).0)
 
 accepts : (e : steps.Step) (space : ℕ) → length (record_of e) ≤ space → FitWidths (step_fields e) → write_code e space ≡ 0
-unfolding write_code
-accepts e space l h = rw (le-ltb space (length (record_of e)) l, widths_fit (step_fields e) h)
+accepts e space l h = code_written e space ∙ rw (le-ltb space (length (record_of e)) l, widths_fit (step_fields e) h)
 
 pub whole-record : (e : steps.Step) (space : ℕ) → write_code e space ≡ 0 → record_written e space ≡ record_of e
 unfolding record_written
 whole-record e space h = rw h
 
 pub write_codes : (e : steps.Step) (space : ℕ) → WriteCodes e space
-unfolding written record_written
+unfolding record_written
 write_codes e space = record {
   code = code-order e space;
-  bytes = pick-both length (eqb (write_code e space) 0) (record_of e) [] (3 + body_length (step_tag e)) 0 (record-length e) refl;
+  bytes = rw (count_written e space) (pick-both length (eqb (write_code e space) 0) (record_of e) [] (3 + body_length (step_tag e)) 0 (record-length e) refl);
   whole = whole-record e space;
   nothing = λ h l. rw h;
   untouched = λ l h. overwrites (record_written e space) l (rw h (pick_cases (λ (r : List ℕ). length r ≤ space) (eqb (write_code e space) 0) (record_of e) [] (λ k. (accepted e space k).0) (λ _. omega arith)));
 }
 
 pub written-reads : (e : steps.Step) (space : ℕ) → WrittenReads e space
-unfolding written
 written-reads e space = record {
-  read = λ h front behind. rw (whole-record e space h) ((record-says e).read (fit_widths (step_fields e) (accepted e space (eq-eqb (write_code e space) 0 h)).1) front behind);
+  read = λ h front behind. rw (count_written e space, whole-record e space h) ((record-says e).read (fit_widths (step_fields e) (accepted e space (eq-eqb (write_code e space) 0 h)).1) front behind);
 }
 
 pub read-writes : (s : List ℕ) (p : ℕ) → ReadWrites s p
-unfolding written
 read-writes s p = record {
   code = code;
   same = λ h e q space k l. whole-record e space (code h e q space k l) ∙ sym ((record_stands s p).found h e q k).bytes;
 }
   where
-    code : Bytes s → (e : steps.Step) (q space : ℕ) → reading s p ≡ Found e q → q - p ≤ space → write_code e space ≡ 0
+    code : Bytes s → (e : steps.Step) (q space : ℕ) → reading s p ≡ Ok (Some (e, q)) → q - p ≤ space → write_code e space ≡ 0
     code h e q space k l =
         let i : IsRecord s p e q = (record_stands s p).found h e q k in
         accepts e space (omega (arith, i.place)) i.fits
@@ -143,11 +162,11 @@ one-behind : (r t space : List ℕ) → r ++ overwritten t (drop (length r) spac
 one-behind r t space = rw (length-append r t, ← (drop-drop (length t) (length r) space), append_assoc r t)
 
 all-script : (l : List steps.Step) (space : List ℕ) → AllFit l → length (script_of l) ≤ length space → all_written l space ≡ overwritten (script_of l) space
-unfolding all_written script_of written
+unfolding all_written script_of
 all-script [] space h n = refl
 all-script (e ∷ l) space h n =
     let m : length (record_of e) + length (script_of l) ≤ length space = omega (arith, length-append (record_of e) (script_of l)) in
-    rw (whole-record e (length space) (accepts e (length space) (omega arith) h.0))
+    rw (count_written e (length space), whole-record e (length space) (accepts e (length space) (omega arith) h.0))
     (ap (λ (t : List ℕ). record_of e ++ t) (all-script l (drop (length (record_of e)) space) h.1 (omega (arith, length-drop (length (record_of e)) space)))
     ∙ one-behind (record_of e) (script_of l) space)
 
@@ -194,16 +213,16 @@ module _ (s : List ℕ) (h : Bytes s) where
     where
       go : (r : Reading) → reading s p ≡ r → ((q : ℕ) → script_of (steps_from n s q) ≡ part s q (stop n q))
           → script_of (steps_by r (steps_from n s)) ≡ part s p (place_after (length (steps_by r (steps_from n s))) s p)
-      go End k f = no_part s p
-      go (Malformed c) k f = no_part s p
-      go (Found e q) k f =
+      go (Ok None) k f = no_part s p
+      go (Err c) k f = no_part s p
+      go (Ok (Some (e, q))) k f =
           let i : IsRecord s p e q = (record_stands s p).found h e q k in
           rw k ((λ j. sym i.bytes j ++ f q j) ∙ join s p q (stop n q) (omega (arith, i.place)) (place-from (length (steps_from n s q)) s q))
 
-end_over : (s : List ℕ) (p : ℕ) → reading s p ≡ End → length s ≤ p
+end_over : (s : List ℕ) (p : ℕ) → reading s p ≡ (Ok None) → length s ≤ p
 end_over s p = go (look s p)
   where
-    go : {r : Reading} → Look s p r → r ≡ End → length s ≤ p
+    go : {r : Reading} → Look s p r → r ≡ (Ok None) → length s ≤ p
     go (over l) k = l
     go (short l) k = let z : ◌≡◌ {A = ℕ} 0 1 = cc in absurd (omega arith)
     go (unknown l) k = let z : ◌≡◌ {A = ℕ} 0 1 = cc in absurd (omega arith)
@@ -221,5 +240,5 @@ rewritten s = record {
     front : Bytes s → script_of (steps_of s) ≡ take (place_after (length (steps_of s)) s 0) s
     front h = again s h (length s) 0 ∙ rw sub-zero
 
-    whole : Bytes s → reading s (place_after (length (steps_of s)) s 0) ≡ End → script_of (steps_of s) ≡ s
+    whole : Bytes s → reading s (place_after (length (steps_of s)) s 0) ≡ (Ok None) → script_of (steps_of s) ≡ s
     whole h k = front h ∙ take_all (place_after (length (steps_of s)) s 0) s (end_over s (place_after (length (steps_of s)) s 0) k)

@@ -1,3 +1,4 @@
+pub mod Refusals
 pub mod Queue
 pub mod Mailboxes
 pub mod Banks

@@ -1,11 +1,11 @@
 -- Records and replies as bytes: the record that says a step, and what a record and a reply are read back as. The table of tags and
 -- numbers is that of specs/Script.antt. Document 01: "Bench script".
-use Rattle.std.specs.Prelude.{true, ◌≡◌, List, [], ◌∷◌, ◌++◌, ℕ, zero, suc, ◌+◌, ◌*◌, ◌/◌, ◌%◌, ◌^◌, ◌<◌, ◌≤◌, length, take, drop}
+use Rattle.std.specs.Prelude.{true, ◌≡◌, List, [], ◌∷◌, ◌++◌, ℕ, zero, suc, ◌+◌, ◌*◌, ◌/◌, ◌%◌, ◌^◌, ◌<◌, ◌≤◌, length, take, drop, Some, None, Ok, Err}
 use Rattle.model.specs.Script.{byte_at, part, is_tag, body_widths, body_length, step_of, step_tag, step_values, decoded, reading, steps_of, reply}
-use Rattle.model.specs.declared.Reading.{Reading}
-use Rattle.model.specs.declared.Reading.TheVariants.{End, Malformed, Found}
 use Rattle.model.specs.declared.Step as steps
 use Rattle.model.specs.declared.Step.TheVariants.{Reset, Read, Write, Idle, BitTimes, Activity, Start, Outcome, Receive, ReceiveError}
+use Rattle.model.specs.Script.{Reading}
+use Rattle.model.specs.Refusals.{code}
 
 -- ---- numbers, low byte first
 
@@ -66,9 +66,9 @@ step_numbers e = step_tag e ∷ step_values e
 
 -- a reading as numbers: 0 the end; 1 a record that can't be read, and its code; 2 a step, the place behind its record, and the step
 abbrev pub reading_numbers : Reading → List ℕ
-reading_numbers End = 0 ∷ []
-reading_numbers (Malformed k) = 1 ∷ k ∷ []
-reading_numbers (Found e q) = 2 ∷ q ∷ step_numbers e
+reading_numbers (Ok None) = 0 ∷ []
+reading_numbers (Err r) = 1 ∷ code r ∷ []
+reading_numbers (Ok (Some (e, q))) = 2 ∷ q ∷ step_numbers e
 
 -- the numbers tell every two apart
 pub record NumbersApart : Type 0 where
@@ -87,7 +87,7 @@ pub record Tags : Type 0 where
 -- a record is of bytes; wherever it stands in a script, it says its step, and the next place is behind it
 pub record RecordSays (e : steps.Step) : Type 0 where
   pub bytes : Bytes (record_of e)
-  pub read : FitWidths (step_fields e) → (front behind : List ℕ) → reading (front ++ (record_of e ++ behind)) (length front) ≡ Found e (length front + length (record_of e))
+  pub read : FitWidths (step_fields e) → (front behind : List ℕ) → reading (front ++ (record_of e ++ behind)) (length front) ≡ Ok (Some (e, length front + length (record_of e)))
 
 -- the bytes from p up to q are the record of e, whose numbers fit
 pub record IsRecord (s : List ℕ) (p : ℕ) (e : steps.Step) (q : ℕ) : Type 0 where
@@ -98,7 +98,7 @@ pub record IsRecord (s : List ℕ) (p : ℕ) (e : steps.Step) (q : ℕ) : Type 0
 
 -- what is found at a place of a script of bytes stands there as its record
 pub record RecordStands (s : List ℕ) (p : ℕ) : Type 0 where
-  pub found : Bytes s → (e : steps.Step) (q : ℕ) → reading s p ≡ Found e q → IsRecord s p e q
+  pub found : Bytes s → (e : steps.Step) (q : ℕ) → reading s p ≡ Ok (Some (e, q)) → IsRecord s p e q
 
 -- the script of a list of steps, one record behind the other, gives these steps
 unfoldable pub script_of : List steps.Step → List ℕ

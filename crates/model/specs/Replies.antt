@@ -1,7 +1,8 @@
 -- Replies read back: one reply at a place, all replies of a list of bytes, and what is promised of that. Document 02: Q-1; the bytes
 -- of a reply are those of document 01, "Bench script".
-use Rattle.std.specs.Prelude.{Bool, true, false, not, ◌||◌, ◌≡◌, List, [], ◌∷◌, ◌++◌, ℕ, zero, suc, ◌+◌, ◌-◌, ◌^◌, ◌<◌, ◌≤◌, eqb, ltb, length}
+use Rattle.std.specs.Prelude.{Bool, true, false, not, ◌||◌, ◌≡◌, List, [], ◌∷◌, ◌++◌, ℕ, zero, suc, ◌+◌, ◌-◌, ◌^◌, ◌<◌, ◌≤◌, eqb, ltb, length, Result, Ok, Err}
 use Rattle.base.specs.Base.{pick}
+use Rattle.model.specs.Refusals.{code}
 use Rattle.model.specs.Step.{step}
 use Rattle.model.specs.Reachable.{InRange, StepsRange}
 use Rattle.model.specs.Script.{byte_at, number16, number32, part, reply, replay, replies_to}
@@ -9,34 +10,38 @@ use Rattle.model.specs.Scripts.{header_short, answered_steps}
 use Rattle.model.specs.Records.{Bytes}
 use Rattle.model.specs.declared.Answer.{Answer}
 use Rattle.model.specs.declared.Controller.{Controller}
-use Rattle.model.specs.declared.ReplyReading.{ReplyReading}
-use Rattle.model.specs.declared.ReplyReading.TheVariants.{Malformed, Said}
 use Rattle.model.specs.declared.Replay as replays
 use Rattle.model.specs.declared.Step as steps
 use Rattle.model.specs.declared.Stepped.{Stepped}
+use Rattle.model.specs.declared.Refusal.{Refusal}
+use Rattle.model.specs.declared.Refusal.TheVariants.{Short, UnknownTag, WrongLength}
 
 -- ---- one reply
+
+-- what a reply says, and the place behind it
+abbrev pub ReplyReading : Type 0
+ReplyReading = Result (Answer × ℕ) Refusal
 
 -- the reply that begins at place p, tested as a record is: a short header 6, another tag 7, another length 8, a short body 6. An
 -- empty one is short
 unfoldable pub reply_reading : List ℕ → ℕ → ReplyReading
 reply_reading s p =
-    pick (ltb (length s - p) 3) (Malformed 6)
-    (pick (not (eqb (byte_at s p) 0x81)) (Malformed 7)
-    (pick (not (eqb (number16 s (p + 1)) 6)) (Malformed 8)
-    (pick (ltb (length s - p) 9) (Malformed 6)
-    (Said (record { code = byte_at s (p + 3); lines = byte_at s (p + 4); word = number32 s (p + 5) }) (p + 9)))))
+    pick (ltb (length s - p) 3) (Err Short)
+    (pick (not (eqb (byte_at s p) 0x81)) (Err UnknownTag)
+    (pick (not (eqb (number16 s (p + 1)) 6)) (Err WrongLength)
+    (pick (ltb (length s - p) 9) (Err Short)
+    (Ok (record { code = byte_at s (p + 3); lines = byte_at s (p + 4); word = number32 s (p + 5) }, p + 9)))))
 
 -- a reading of a reply as numbers: 1 one that can't be read, and its code; 2 one that can, the place behind it, and what it says
 abbrev pub reply_numbers : ReplyReading → List ℕ
-reply_numbers (Malformed k) = 1 ∷ k ∷ []
-reply_numbers (Said a q) = 2 ∷ q ∷ a.code ∷ a.lines ∷ a.word ∷ []
+reply_numbers (Err r) = 1 ∷ code r ∷ []
+reply_numbers (Ok (a, q)) = 2 ∷ q ∷ a.code ∷ a.lines ∷ a.word ∷ []
 
 -- ---- all replies
 
 unfoldable pub answers_by : ReplyReading → (ℕ → List Answer) → List Answer
-answers_by (Malformed k) f = []
-answers_by (Said a q) f = a ∷ f q
+answers_by (Err r) f = []
+answers_by (Ok (a, q)) f = a ∷ f q
 
 -- what at most n replies from place p on say
 unfoldable pub answers_from : ℕ → List ℕ → ℕ → List Answer
@@ -76,12 +81,12 @@ reply_of_answer a = reply a.code a.lines a.word
 
 -- a reply says its answer wherever it stands, and the next place is behind it
 pub record ReplyReads (a : Answer) : Type 0 where
-  pub read : a.word < 2 ^ 32 → (front behind : List ℕ) → reply_reading (front ++ (reply_of_answer a ++ behind)) (length front) ≡ Said a (length front + 9)
+  pub read : a.word < 2 ^ 32 → (front behind : List ℕ) → reply_reading (front ++ (reply_of_answer a ++ behind)) (length front) ≡ Ok (a, length front + 9)
 
 -- what is read in a list of bytes stands there as its reply
 pub record ReplyStands (s : List ℕ) (p : ℕ) : Type 0 where
-  pub place : (a : Answer) (q : ℕ) → reply_reading s p ≡ Said a q → (q ≡ p + 9) × (q ≤ length s)
-  pub bytes : Bytes s → (a : Answer) (q : ℕ) → reply_reading s p ≡ Said a q → part s p q ≡ reply_of_answer a
+  pub place : (a : Answer) (q : ℕ) → reply_reading s p ≡ Ok (a, q) → (q ≡ p + 9) × (q ≤ length s)
+  pub bytes : Bytes s → (a : Answer) (q : ℕ) → reply_reading s p ≡ Ok (a, q) → part s p q ≡ reply_of_answer a
 
 abbrev pub answer_of : Stepped → Answer
 answer_of a = record { code = a.code; lines = a.lines; word = a.word }

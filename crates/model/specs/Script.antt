@@ -1,16 +1,17 @@
 -- Scripts: one record read from a place, its reply, and the replay of a whole script, on lists of bytes.
 -- Document 01: "Bench script"; codes 6 to 9 of "Refusal numbers".
-use Rattle.std.specs.Prelude.{Bool, true, false, not, ◌&&◌, ◌||◌, List, [], ◌∷◌, ◌++◌, ℕ, zero, suc, ◌+◌, ◌-◌, ◌*◌, ◌/◌, ◌%◌, ◌^◌, eqb, ltb, leb, length, get_or, take, drop}
+use Rattle.std.specs.Prelude.{Bool, true, false, not, ◌&&◌, ◌||◌, List, [], ◌∷◌, ◌++◌, ℕ, zero, suc, ◌+◌, ◌-◌, ◌*◌, ◌/◌, ◌%◌, ◌^◌, eqb, ltb, leb, length, get_or, take, drop, Option, Some, None, Result, Ok, Err}
 use Rattle.base.specs.Base.{pick, one}
+use Rattle.model.specs.Refusals as refusals
 use Rattle.model.specs.Step.{step, lines_of}
 use Rattle.model.specs.declared.Controller.{Controller}
 use Rattle.model.specs.declared.Stepped.{Stepped}
-use Rattle.model.specs.declared.Reading.{Reading}
-use Rattle.model.specs.declared.Reading.TheVariants.{End, Malformed, Found}
 use Rattle.model.specs.declared.Replayed.{Replayed}
 use Rattle.model.specs.declared.Replay as replays
 use Rattle.model.specs.declared.Step as steps
 use Rattle.model.specs.declared.Step.TheVariants.{Reset, Read, Write, Idle, BitTimes, Activity, Start, Outcome, Receive, ReceiveError}
+use Rattle.model.specs.declared.Refusal.{Refusal}
+use Rattle.model.specs.declared.Refusal.TheVariants.{Short, UnknownTag, WrongLength}
 
 -- ---- numbers, low byte first
 
@@ -109,21 +110,25 @@ decoded t b = step_of t (numbers_at (body_widths t) b 0)
 abbrev pub part : List ℕ → ℕ → ℕ → List ℕ
 part s a e = take (e - a) (drop a s)
 
+-- nothing at the end, or a step and the place behind its record
+abbrev pub Reading : Type 0
+Reading = Result (Option (steps.Step × ℕ)) Refusal
+
 -- the record that begins at place p: an empty rest is the end; a short header 6, an unknown tag 7, a wrong length 8, a short body 6
 unfoldable pub reading : List ℕ → ℕ → Reading
 reading s p =
-    pick (leb (length s) p) End
-    (pick (ltb (length s - p) 3) (Malformed 6)
-    (pick (not (is_tag (byte_at s p))) (Malformed 7)
-    (pick (not (eqb (number16 s (p + 1)) (body_length (byte_at s p)))) (Malformed 8)
-    (pick (ltb (length s - p) (3 + body_length (byte_at s p))) (Malformed 6)
-    (Found (decoded (byte_at s p) (part s (p + 3) (p + 3 + body_length (byte_at s p)))) (p + 3 + body_length (byte_at s p)))))))
+    pick (leb (length s) p) (Ok None)
+    (pick (ltb (length s - p) 3) (Err Short)
+    (pick (not (is_tag (byte_at s p))) (Err UnknownTag)
+    (pick (not (eqb (number16 s (p + 1)) (body_length (byte_at s p)))) (Err WrongLength)
+    (pick (ltb (length s - p) (3 + body_length (byte_at s p))) (Err Short)
+    (Ok (Some (decoded (byte_at s p) (part s (p + 3) (p + 3 + body_length (byte_at s p))), p + 3 + body_length (byte_at s p))))))))
 
 -- the code that a reading gives by itself: 0 at the end and for a record that can be read
 abbrev pub reading_code : Reading → ℕ
-reading_code End = 0
-reading_code (Malformed k) = k
-reading_code (Found e q) = 0
+reading_code (Ok None) = 0
+reading_code (Err r) = refusals.code r
+reading_code (Ok (Some (e, q))) = 0
 
 -- ---- one record
 
@@ -145,9 +150,9 @@ passed a q = record { controller = a.controller; place = q; ended = false; code 
 
 -- what a record gives, with this much reply space: the end comes before code 9, code 9 before all others
 unfoldable pub replayed : Reading → Controller → ℕ → ℕ → ℕ → Replayed
-replayed End z n p space = at_end z n
-replayed (Malformed k) z n p space = stayed z p (pick (ltb space 9) 9 k)
-replayed (Found e q) z n p space = pick (ltb space 9) (stayed z p 9) (passed (step z e) q)
+replayed (Ok None) z n p space = at_end z n
+replayed (Err r) z n p space = stayed z p (pick (ltb space 9) 9 (refusals.code r))
+replayed (Ok (Some (e, q))) z n p space = pick (ltb space 9) (stayed z p 9) (passed (step z e) q)
 
 unfoldable pub record_at : Controller → List ℕ → ℕ → ℕ → Replayed
 record_at z s p space = replayed (reading s p) z (length s) p space
@@ -209,9 +214,9 @@ replay z s space = times (suc (length s)) (advanced s space) (begun z)
 -- ---- the steps of a script
 
 unfoldable pub steps_by : Reading → (ℕ → List steps.Step) → List steps.Step
-steps_by End l = []
-steps_by (Malformed k) l = []
-steps_by (Found e q) l = e ∷ l q
+steps_by (Ok None) l = []
+steps_by (Err r) l = []
+steps_by (Ok (Some (e, q))) l = e ∷ l q
 
 -- the steps of at most n records from place p on
 unfoldable pub steps_from : ℕ → List ℕ → ℕ → List steps.Step

@@ -1,6 +1,6 @@
 -- What is promised of scripts: the codes 6 to 9 of a record as a table, a replay as the fold of the step, where it stops,
 -- a script in pieces, and the whole script of the example. Document 01: "Refusal numbers", "Bench script", "Numbers on the wall".
-use Rattle.std.specs.Prelude.{Bool, true, false, not, ◌&&◌, ◌||◌, ◌≡◌, ℕ, zero, suc, ◌+◌, ◌-◌, ◌*◌, ◌/◌, ◌≤◌, eqb, ltb, leb, length, take, drop}
+use Rattle.std.specs.Prelude.{Bool, true, false, not, ◌&&◌, ◌||◌, ◌≡◌, ℕ, zero, suc, ◌+◌, ◌-◌, ◌*◌, ◌/◌, ◌≤◌, eqb, ltb, leb, length, take, drop, Some, None, Ok, Err}
 use mathlib.Core.List.{List, [], ◌∷◌, ◌++◌, flatten}
 use Rattle.base.specs.Base.{pick}
 use Rattle.model.specs.Step.{step, lines_of}
@@ -8,12 +8,11 @@ use Rattle.model.specs.Requests.{after}
 use Rattle.model.specs.Script.{byte_at, number16, is_tag, body_length, decoded, part, reading, reply, record_at, reply_of, overwritten, stops, Progress, begun, advanced, times, replay, steps_of, replies_to, reading_code}
 use Rattle.model.specs.Records.{step_numbers, reading_numbers}
 use Rattle.model.specs.declared.Controller.{Controller}
-use Rattle.model.specs.declared.Reading.{Reading}
-use Rattle.model.specs.declared.Reading.TheVariants.{End, Malformed, Found}
 use Rattle.model.specs.declared.Replayed.{Replayed}
 use Rattle.model.specs.declared.Stepped.{Stepped}
 use Rattle.model.specs.declared.Replay as replays
 use Rattle.model.specs.declared.Step as steps
+use Rattle.model.specs.Script.{Reading}
 
 -- ---- one record: what can be wrong with it
 
@@ -108,9 +107,9 @@ last_answer x = record { controller = x.controller; place = x.place; ended = x.e
 
 -- the place behind the first n records from place p on, or of the first that can't be read
 unfoldable pub place_by : Reading → ℕ → (ℕ → ℕ) → ℕ
-place_by End p f = p
-place_by (Malformed k) p f = p
-place_by (Found e q) p f = f q
+place_by (Ok None) p f = p
+place_by (Err r) p f = p
+place_by (Ok (Some (e, q))) p f = f q
 
 unfoldable pub place_after : ℕ → List ℕ → ℕ → ℕ
 place_after zero s p = p

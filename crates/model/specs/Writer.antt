@@ -1,17 +1,19 @@
 -- Scripts written: a step to its record in a lent space, and what is promised of that. Document 02: Q-1; the table of records and
 -- the bytes of a record are those of document 01, "Bench script".
-use Rattle.std.specs.Prelude.{Bool, true, false, ◌&&◌, ◌||◌, ◌≡◌, List, [], ◌∷◌, ◌++◌, ℕ, ◌+◌, ◌-◌, ◌^◌, ◌≤◌, eqb, ltb, length, take, drop}
+use Rattle.std.specs.Prelude.{Bool, true, false, ◌&&◌, ◌||◌, ◌≡◌, List, [], ◌∷◌, ◌++◌, ℕ, ◌+◌, ◌-◌, ◌^◌, ◌≤◌, eqb, ltb, length, take, drop, Some, None, Result, Ok, Err}
+use Rattle.std.specs.Result.{result_unwrap_or}
 use Rattle.base.specs.Base.{pick}
 use Rattle.model.specs.Script.{step_tag, body_length, part, reading, steps_of, overwritten}
 use Rattle.model.specs.Records.{Bytes, Field, step_fields, step_numbers, record_of, script_of, AllFit}
 use Rattle.model.specs.Reachable.{StepRange}
+use Rattle.model.specs.Refusals.{code_of}
 use Rattle.model.specs.Scripts.{Overwrites, place_after}
 use Rattle.model.specs.declared.Frame.{Frame}
 use Rattle.model.specs.declared.WideFrame.{WideFrame}
+use Rattle.model.specs.declared.Refusal.{Refusal}
+use Rattle.model.specs.declared.Refusal.TheVariants.{NoSpace, OutOfRange}
 use Rattle.model.specs.declared.WideStep as wide
 use Rattle.model.specs.declared.WideStep.TheVariants as wides
-use Rattle.model.specs.declared.Written as writings
-use Rattle.model.specs.declared.Reading.TheVariants.{End, Found}
 use Rattle.model.specs.declared.Step as steps
 use Rattle.model.specs.declared.Step.TheVariants.{Reset, Read, Write, Idle, BitTimes, Activity, Start, Outcome, Receive, ReceiveError}
 
@@ -51,16 +53,16 @@ abbrev pub fit : List Field → Bool
 fit [] = true
 fit (f ∷ l) = ltb f.value (256 ^ f.width) && fit l
 
--- too little space for the record is 9; then a number that the tag can't hold is 5
-unfoldable pub write_code : steps.Step → ℕ → ℕ
-write_code e space = pick (ltb space (length (record_of e))) 9 (pick (fit (step_fields e)) 0 5)
+-- how many bytes are written; or why none are: too little space for the record, then a number that the tag can't hold
+unfoldable pub written : steps.Step → ℕ → Result ℕ Refusal
+written e space = pick (ltb space (length (record_of e))) (Err NoSpace) (pick (fit (step_fields e)) (Ok (length (record_of e))) (Err OutOfRange))
+
+abbrev pub write_code : steps.Step → ℕ → ℕ
+write_code e space = code_of (written e space)
 
 -- what is written: nothing where it is refused
 unfoldable pub record_written : steps.Step → ℕ → List ℕ
 record_written e space = pick (eqb (write_code e space) 0) (record_of e) []
-
-unfoldable pub written : steps.Step → ℕ → writings.Written
-written e space = record { code = write_code e space; bytes = length (record_written e space) }
 
 -- ---- what is promised of one record
 
@@ -83,27 +85,27 @@ too_large (ReceiveError k n) = ltb 255 k || ltb 255 n
 
 -- 9 and 5, each exactly when, in this order; else the whole record; bytes behind it stay
 pub record WriteCodes (e : steps.Step) (space : ℕ) : Type 0 where
-  pub code : StepRange e → (written e space).code ≡ pick (ltb space (3 + body_length (step_tag e))) 9 (pick (too_large e) 5 0)
-  pub bytes : (written e space).bytes ≡ pick (eqb (written e space).code 0) (3 + body_length (step_tag e)) 0
-  pub whole : (written e space).code ≡ 0 → record_written e space ≡ record_of e
-  pub nothing : eqb (written e space).code 0 ≡ false → (l : List ℕ) → overwritten (record_written e space) l ≡ l
+  pub code : StepRange e → code_of (written e space) ≡ pick (ltb space (3 + body_length (step_tag e))) 9 (pick (too_large e) 5 0)
+  pub bytes : result_unwrap_or (written e space) 0 ≡ pick (eqb (code_of (written e space)) 0) (3 + body_length (step_tag e)) 0
+  pub whole : code_of (written e space) ≡ 0 → record_written e space ≡ record_of e
+  pub nothing : eqb (code_of (written e space)) 0 ≡ false → (l : List ℕ) → overwritten (record_written e space) l ≡ l
   pub untouched : (l : List ℕ) → length l ≡ space → Overwrites (record_written e space) l (overwritten (record_written e space) l)
 
 -- what was written reads as the step, wherever it stands, and the next place is behind it
 pub record WrittenReads (e : steps.Step) (space : ℕ) : Type 0 where
-  pub read : (written e space).code ≡ 0 → (front behind : List ℕ) → reading (front ++ (record_written e space ++ behind)) (length front) ≡ Found e (length front + (written e space).bytes)
+  pub read : code_of (written e space) ≡ 0 → (front behind : List ℕ) → reading (front ++ (record_written e space ++ behind)) (length front) ≡ Ok (Some (e, length front + result_unwrap_or (written e space) 0))
 
 -- what was read at place p of a script of bytes is written as the bytes that stand there, wherever there is space for them
 pub record ReadWrites (s : List ℕ) (p : ℕ) : Type 0 where
-  pub code : Bytes s → (e : steps.Step) (q space : ℕ) → reading s p ≡ Found e q → q - p ≤ space → (written e space).code ≡ 0
-  pub same : Bytes s → (e : steps.Step) (q space : ℕ) → reading s p ≡ Found e q → q - p ≤ space → record_written e space ≡ part s p q
+  pub code : Bytes s → (e : steps.Step) (q space : ℕ) → reading s p ≡ Ok (Some (e, q)) → q - p ≤ space → code_of (written e space) ≡ 0
+  pub same : Bytes s → (e : steps.Step) (q space : ℕ) → reading s p ≡ Ok (Some (e, q)) → q - p ≤ space → record_written e space ≡ part s p q
 
 -- ---- lists of steps
 
 -- a list of steps written to a space, each to what the one before it left
 unfoldable pub all_written : List steps.Step → List ℕ → List ℕ
 all_written [] space = space
-all_written (e ∷ l) space = record_written e (length space) ++ all_written l (drop (written e (length space)).bytes space)
+all_written (e ∷ l) space = record_written e (length space) ++ all_written l (drop (result_unwrap_or (written e (length space)) 0) space)
 
 -- steps whose numbers fit, in a space that has room for all: what is written is their script, and it reads as these steps
 pub record AllWritten (l : List steps.Step) (space : List ℕ) : Type 0 where
@@ -113,5 +115,5 @@ pub record AllWritten (l : List steps.Step) (space : List ℕ) : Type 0 where
 -- the steps of a script of bytes, written again, are the bytes up to the record that can't be read; all of them if every one can
 pub record Rewritten (s : List ℕ) : Type 0 where
   pub front : Bytes s → script_of (steps_of s) ≡ take (place_after (length (steps_of s)) s 0) s
-  pub whole : Bytes s → reading s (place_after (length (steps_of s)) s 0) ≡ End → script_of (steps_of s) ≡ s
-  pub again : Bytes s → reading s (place_after (length (steps_of s)) s 0) ≡ End → (space : List ℕ) → length s ≤ length space → all_written (steps_of s) space ≡ overwritten s space
+  pub whole : Bytes s → reading s (place_after (length (steps_of s)) s 0) ≡ (Ok None) → script_of (steps_of s) ≡ s
+  pub again : Bytes s → reading s (place_after (length (steps_of s)) s 0) ≡ (Ok None) → (space : List ℕ) → length s ≤ length space → all_written (steps_of s) space ≡ overwritten s space

@@ -2,6 +2,9 @@
 // The rules are the definitions of specs/; nothing here runs.
 #![tactic(auto)]
 
+ghost use Rattle.std.specs.Prelude.{◌≡◌};
+ghost use Rattle.model.specs.Refusals as refusals;
+
 // ---- transmission
 
 // One of the three transmit mailboxes.
@@ -174,6 +177,32 @@ pub struct Controller {
     pub banks: [u32; 28],
 }
 
+// ---- refusals
+
+// Why a step, a record, a block or a lesson is refused; the numbers are those of a reply and of a call from C.
+#[derive(Clone, Copy, Debug, PartialEq, Eq)]
+pub enum Refusal {
+    NotMapped = 1,
+    NotWritable = 2,
+    ReadOnly = 3,
+    NotNow = 4,
+    OutOfRange = 5,
+    Short = 6,
+    UnknownTag = 7,
+    WrongLength = 8,
+    NoSpace = 9,
+    BadBlock = 10,
+    NotOpened = 11,
+}
+
+impl From<Refusal> for u8 {
+    ghost from_gives = { λ r n. n ≡ refusals.code r };
+
+    fn from(r: Refusal) -> u8 {
+        r as u8
+    }
+}
+
 // ---- steps and answers
 
 // A register, as an offset names it.
@@ -238,13 +267,11 @@ pub struct Answer {
 
 // ---- scripts
 
-// What stands at a place of a script: its end, a record that can't be read, or a step and the place behind its record.
-#[derive(Clone, Copy)]
-pub enum Reading {
-    End,
-    Malformed(u8),
-    Found(Step, usize),
-}
+// What stands at a place of a script: nothing at its end, or a step and the place behind its record.
+pub type Reading = Result<Option<(Step, usize)>, Refusal>;
+
+// What stands at a place of some replies: what one says, and the place behind it.
+pub type ReplyReading = Result<(Answer, usize), Refusal>;
 
 // A frame and a step in numbers of 32 bits, which may be too large for a record: what is written to a script.
 #[derive(Clone, Copy)]
@@ -267,20 +294,6 @@ pub enum WideStep {
     Outcome(u32),
     Receive(WideFrame),
     ReceiveError(u32, u32),
-}
-
-// What writing a record gives: the code, and how many bytes are written.
-#[derive(Clone, Copy)]
-pub struct Written {
-    pub code: u8,
-    pub bytes: usize,
-}
-
-// What stands at a place of some replies: one that can't be read, or what it says and the place behind it.
-#[derive(Clone, Copy)]
-pub enum ReplyReading {
-    Malformed(u8),
-    Said(Answer, usize),
 }
 
 // What one record gives: the next controller, whether the script was at its end, the answer, the next place.

@@ -1,4 +1,5 @@
 -- What is read at a place where a whole header stands, by the tag and the length that it says.
+use Rattle.std.proofs.Common.{Some, Ok, Err}
 use mathlib.Core.Path.{◌≡◌, refl}
 use mathlib.Core.Bool.{Bool, true, false, not}
 use mathlib.Core.List.{List}
@@ -9,16 +10,16 @@ use lib.ListN.{length}
 use borrow.Author.Tests.{leb-true, le-ltb, lt-leb}
 use Rattle.base.specs.Base.{pick}
 use Rattle.model.specs.Script.{byte_at, number16, is_tag, body_length, decoded, part, reading}
-use Rattle.model.specs.declared.Reading.{Reading}
-use Rattle.model.specs.declared.Reading.TheVariants.{Malformed, Found}
+use Rattle.model.specs.Script.{Reading}
+use Rattle.model.specs.declared.Refusal.TheVariants.{Short, UnknownTag, WrongLength}
 
 -- what is read, the header there having tag t and saying length l
 abbrev read_by : List ℕ → ℕ → ℕ → ℕ → Reading
 read_by s p t l =
-    pick (not (is_tag t)) (Malformed 7)
-    (pick (not (eqb l (body_length t))) (Malformed 8)
-    (pick (ltb (length s - p) (3 + body_length t)) (Malformed 6)
-    (Found (decoded t (part s (p + 3) (p + 3 + body_length t))) (p + 3 + body_length t))))
+    pick (not (is_tag t)) (Err UnknownTag)
+    (pick (not (eqb l (body_length t))) (Err WrongLength)
+    (pick (ltb (length s - p) (3 + body_length t)) (Err Short)
+    (Ok (Some ((decoded t (part s (p + 3) (p + 3 + body_length t))), (p + 3 + body_length t))))))
 
 -- a place with a whole header is read by it
 pub by_header : (s : List ℕ) (p t l : ℕ) (r : Reading) → 3 ≤ length s - p → byte_at s p ≡ t → l ≡ number16 s (p + 1) → r ≡ read_by s p t l → r ≡ reading s p

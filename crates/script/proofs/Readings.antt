@@ -1,4 +1,5 @@
 -- What was read with no space for a reply, and with space.
+use Rattle.std.proofs.Common.{Some, None, Ok, Err}
 use mathlib.Core.Bool.{Bool, true, false, not}
 use mathlib.Core.List.{List}
 use mathlib.Core.Path.{◌≡◌, refl}
@@ -7,22 +8,22 @@ use lib.Dec.{eqb, ltb, leb}
 use lib.ListN.{length}
 use Rattle.base.specs.Base.{pick}
 use Rattle.model.specs.Script.{reading, byte_at, number16, part, is_tag, body_length, decoded}
-use Rattle.model.specs.declared.Reading.{Reading}
-use Rattle.model.specs.declared.Reading.TheVariants.{End, Malformed, Found}
 use Rattle.model.specs.declared.Step as steps
 use Rattle.script.specs.OneWay.{answerable, is_end}
+use Rattle.model.specs.Script.{Reading}
+use Rattle.model.specs.declared.Refusal.TheVariants.{NoSpace, Short, UnknownTag, WrongLength}
 
-pub without-space : (x : Reading) (space : ℕ) → ltb space 9 ≡ true → answerable x space ≡ pick (is_end x) End (Malformed 9)
+pub without-space : (x : Reading) (space : ℕ) → ltb space 9 ≡ true → answerable x space ≡ pick (is_end x) (Ok None) (Err NoSpace)
 unfolding answerable
-without-space End space h = refl
-without-space (Malformed k) space h = simp h
-without-space (Found e q) space h = simp h
+without-space (Ok None) space h = refl
+without-space (Err k) space h = simp h
+without-space (Ok (Some (e, q))) space h = simp h
 
 pub with_space : (x : Reading) (space : ℕ) → ltb space 9 ≡ false → answerable x space ≡ x
 unfolding answerable
-with_space End space h = refl
-with_space (Malformed k) space h = simp h
-with_space (Found e q) space h = simp h
+with_space (Ok None) space h = refl
+with_space (Err k) space h = simp h
+with_space (Ok (Some (e, q))) space h = simp h
 
 -- only an empty rest is the end
 pub end_of : (s : List ℕ) (p : ℕ) → is_end (reading s p) ≡ leb (length s) p
@@ -32,7 +33,7 @@ end_of s p =
     (ltb (length s - p) (3 + body_length (byte_at s p))) (decoded (byte_at s p) (part s (p + 3) (p + 3 + body_length (byte_at s p)))) (p + 3 + body_length (byte_at s p))
   where
     go : (b₀ b₁ b₂ b₃ b₄ : Bool) (e : steps.Step) (q : ℕ)
-        → is_end (pick b₀ End (pick b₁ (Malformed 6) (pick b₂ (Malformed 7) (pick b₃ (Malformed 8) (pick b₄ (Malformed 6) (Found e q)))))) ≡ b₀
+        → is_end (pick b₀ (Ok None) (pick b₁ (Err Short) (pick b₂ (Err UnknownTag) (pick b₃ (Err WrongLength) (pick b₄ (Err Short) (Ok (Some (e, q)))))))) ≡ b₀
     go true b₁ b₂ b₃ b₄ e q = refl
     go false true b₂ b₃ b₄ e q = refl
     go false false true b₃ b₄ e q = refl

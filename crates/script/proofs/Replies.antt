@@ -1,4 +1,5 @@
 -- Nine stores make a reply, and what is answered has space for them. Assumes nothing.
+use Rattle.std.proofs.Common.{Some, None, Ok, Err}
 use mathlib.Core.Bool.{Bool, true, false, ◌||◌}
 use mathlib.Core.Path.{◌≡◌, refl}
 use mathlib.Core.List.{List, [], ◌∷◌}
@@ -8,9 +9,9 @@ use borrow.Author.Tests.{ltb-false}
 use lib.Dec.{eqb, ltb}
 use lib.ListN.{length, set, drop}
 use Rattle.base.specs.Base.{pick}
-use Rattle.model.specs.declared.Reading.{Reading}
-use Rattle.model.specs.declared.Reading.TheVariants.{End, Malformed, Found}
 use Rattle.script.specs.OneWay.{answerable, code_of, is_end}
+use Rattle.model.specs.Script.{Reading}
+use Rattle.model.specs.declared.Refusal.TheVariants.{NoSpace}
 
 -- ---- nine stores from the front
 
@@ -39,14 +40,14 @@ module _ (space code : ℕ) where
   -- what is answered has space for its reply
   pub room : (x : Reading) → Unanswered (answerable x space) ≡ false → 9 ≤ space
   unfolding answerable
-  room End e = refused refl e
-  room (Malformed k) e = go (ltb space 9) refl e
+  room (Ok None) e = refused refl e
+  room (Err k) e = go (ltb space 9) refl e
     where
-      go : (b : Bool) → ltb space 9 ≡ b → Unanswered (pick b (Malformed 9) (Malformed k)) ≡ false → 9 ≤ space
+      go : (b : Bool) → ltb space 9 ≡ b → Unanswered (pick b (Err NoSpace) (Err k)) ≡ false → 9 ≤ space
       go true d e = refused refl e
       go false d e = ltb-false space 9 d
-  room (Found s q) e = go (ltb space 9) refl e
+  room (Ok (Some (s, q))) e = go (ltb space 9) refl e
     where
-      go : (b : Bool) → ltb space 9 ≡ b → Unanswered (pick b (Malformed 9) (Found s q)) ≡ false → 9 ≤ space
+      go : (b : Bool) → ltb space 9 ≡ b → Unanswered (pick b (Err NoSpace) (Ok (Some (s, q)))) ≡ false → 9 ≤ space
       go true d e = refused refl e
       go false d e = ltb-false space 9 d

@@ -1,13 +1,11 @@
 -- A record that can't be read or answered goes through `step` too, as a step that every state refuses: so the state has one way through
 -- the code.
-use Rattle.std.specs.Prelude.{Bool, true, false, ◌≡◌, refl, List, ℕ, ltb, length}
+use Rattle.std.specs.Prelude.{Bool, true, false, ◌≡◌, refl, List, ℕ, ltb, length, Some, None, Ok, Err}
 use Rattle.std.proofs.Common.{ap, sym, ◌∙◌}
 use Rattle.base.specs.Base.{pick}
 use Rattle.model.specs.Script.{reading, replayed, record_at}
 use Rattle.model.specs.Step.{step, answered, refusal, core_after, banks_after, lines_of}
 use Rattle.model.specs.declared.Controller.{Controller}
-use Rattle.model.specs.declared.Reading.{Reading}
-use Rattle.model.specs.declared.Reading.TheVariants.{End, Malformed, Found}
 use Rattle.model.specs.declared.Replayed.{Replayed}
 use Rattle.model.specs.declared.Stepped.{Stepped}
 use Rattle.model.specs.declared.Step as steps
@@ -16,34 +14,36 @@ use Rattle.writes.specs.Places.{changed}
 use Rattle.controller.specs.After.{core_step, whole-step}
 use Rattle.controller.specs.declared.CoreStepped.{CoreStepped}
 use Rattle.script.specs.declared.CoreReplayed.{CoreReplayed}
+use Rattle.model.specs.Script.{Reading}
+use Rattle.model.specs.declared.Refusal.TheVariants.{NoSpace}
 
 -- without space for a reply, what was read can't be answered
 unfoldable pub answerable : Reading → ℕ → Reading
-answerable End space = End
-answerable (Malformed k) space = pick (ltb space 9) (Malformed 9) (Malformed k)
-answerable (Found e q) space = pick (ltb space 9) (Malformed 9) (Found e q)
+answerable (Ok None) space = (Ok None)
+answerable (Err k) space = pick (ltb space 9) (Err NoSpace) (Err k)
+answerable (Ok (Some (e, q))) space = pick (ltb space 9) (Err NoSpace) (Ok (Some (e, q)))
 
 -- the step that is done: no bit times at all is refused in every state
 abbrev pub step_of : Reading → steps.Step
-step_of End = BitTimes 0
-step_of (Malformed k) = BitTimes 0
-step_of (Found e q) = e
+step_of (Ok None) = BitTimes 0
+step_of (Err k) = BitTimes 0
+step_of (Ok (Some (e, q))) = e
 
 abbrev pub code_of : Reading → ℕ → ℕ
-code_of End code = 0
-code_of (Malformed k) code = k
-code_of (Found e q) code = code
+code_of (Ok None) code = 0
+code_of (Err k) code = k
+code_of (Ok (Some (e, q))) code = code
 
 -- the place afterwards, from place p in a script of n bytes
 abbrev pub place_of : Reading → ℕ → ℕ → ℕ
-place_of End n p = n
-place_of (Malformed k) n p = p
-place_of (Found e q) n p = q
+place_of (Ok None) n p = n
+place_of (Err k) n p = p
+place_of (Ok (Some (e, q))) n p = q
 
 abbrev pub is_end : Reading → Bool
-is_end End = true
-is_end (Malformed k) = false
-is_end (Found e q) = false
+is_end (Ok None) = true
+is_end (Err k) = false
+is_end (Ok (Some (e, q))) = false
 
 -- what a record gives, from what its step gave
 abbrev pub after : Reading → ℕ → ℕ → Stepped → Replayed
@@ -64,15 +64,15 @@ refused z = refl
 pub one_way : (x : Reading) (z : Controller) (n p space : ℕ)
     → replayed x z n p space ≡ after (answerable x space) n p (step z (step_of (answerable x space)))
 unfolding replayed answerable
-one_way End z n p space = rw (refused z)
-one_way (Malformed k) z n p space = go (ltb space 9)
+one_way (Ok None) z n p space = rw (refused z)
+one_way (Err k) z n p space = go (ltb space 9)
   where
     go : (b : Bool)
         → record { controller = z; place = p; ended = false; code = pick b 9 k; lines = lines_of z.core; word = 0 }
-        ≡ after (pick b (Malformed 9) (Malformed k)) n p (step z (step_of (pick b (Malformed 9) (Malformed k))))
+        ≡ after (pick b (Err NoSpace) (Err k)) n p (step z (step_of (pick b (Err NoSpace) (Err k))))
     go true = rw (refused z)
     go false = rw (refused z)
-one_way (Found e q) z n p space = go (ltb space 9)
+one_way (Ok (Some (e, q))) z n p space = go (ltb space 9)
   where
     go : (b : Bool)
         → pick b (record { controller = z; place = p; ended = false; code = 9; lines = lines_of z.core; word = 0 }) (record {
@@ -83,7 +83,7 @@ one_way (Found e q) z n p space = go (ltb space 9)
           lines = (step z e).lines;
           word = (step z e).word;
         })
-        ≡ after (pick b (Malformed 9) (Found e q)) n p (step z (step_of (pick b (Malformed 9) (Found e q))))
+        ≡ after (pick b (Err NoSpace) (Ok (Some (e, q)))) n p (step z (step_of (pick b (Err NoSpace) (Ok (Some (e, q))))))
     go true = rw (refused z)
     go false = refl
 
