@@ -15,8 +15,7 @@ use Rattle.hex_text.specs.declared.Fault.TheVariants.{Character, LoneDigit}
 use Rattle.hex_text.specs.declared.Place.{Place}
 use Rattle.hex_text.specs.declared.Place.TheVariants.{Between, Inside, Comment, Stopped}
 use Rattle.hex_text.specs.declared.Reader.{Reader}
-use Rattle.hex_text.specs.declared.Given.{Given}
-use Rattle.hex_text.specs.declared.Given.TheVariants.{Byte, Nothing}
+use Rattle.std.specs.Prelude.{Option, Some, None}
 use Rattle.hex_text.proofs.Texts.{in_pieces_lem, stays}
 
 -- ---- the numbers tell the cases apart
@@ -32,9 +31,9 @@ place_of_numbers l =
     pick (eqb (byte_at l 0) 0) Between
     (pick (eqb (byte_at l 0) 1) (Inside (byte_at l 1)) (pick (eqb (byte_at l 0) 2) Comment (Stopped (fault_from (byte_at l 1) (byte_at l 2)))))
 
-abbrev given_of : List ℕ → Given
-given_of [] = Nothing
-given_of (b ∷ l) = Byte b
+abbrev given_of : List ℕ → Option ℕ
+given_of [] = None
+given_of (b ∷ l) = Some b
 
 kind_back : (x : Kind) → kind_of_numbers (kind_numbers x) ≡ x
 kind_back (Digit v) = refl
@@ -53,9 +52,9 @@ place-back (Inside h) = refl
 place-back Comment = refl
 place-back (Stopped f) = ap Stopped (fault_back f)
 
-given_back : (x : Given) → given_of (bytes_of x) ≡ x
-given_back (Byte b) = refl
-given_back Nothing = refl
+given_back : (x : Option ℕ) → given_of (bytes_of x) ≡ x
+given_back (Some b) = refl
+given_back None = refl
 
 pub cases_apart : CasesApart
 cases_apart = record {

@@ -1,20 +1,11 @@
 -- What holds while a text is read and its bytes are written over its start, and how one character more carries it on.
-use Rattle.std.proofs.Common.{◌≡◌, ℕ, suc, ◌+◌, ◌-◌, ◌<◌, ◌≤◌, Bool, true, false, ◌&&◌, leb, List, ◌∷◌, ◌++◌, length, get_or, take, drop, sym, refl, ap, ◌∙◌, true≢false, append-nil, add-zero, add-one, arith, length-set, take-append-drop, drop_of_length-le, length-take-le, get_or-drop, drop-cons, drop-drop, take-suc-set, drop-set-lt, leb-true}
+use Rattle.std.proofs.Common.{◌≡◌, ℕ, suc, ◌+◌, ◌-◌, ◌<◌, ◌≤◌, List, ◌∷◌, ◌++◌, length, get_or, take, drop, sym, refl, ap, ◌∙◌, append-nil, add-zero, add-one, arith, length-set, take-append-drop, drop_of_length-le, length-take-le, get_or-drop, drop-cons, drop-drop, take-suc-set, drop-set-lt}
 use Rattle.model.specs.Script.{overwritten}
-use Rattle.hex_text.specs.Text.{is_within, taken, bytes_of, stored, advanced, read_on, unhexed, piece_of}
+use Rattle.hex_text.specs.Text.{taken, bytes_of, stored, advanced, read_on, unhexed, piece_of}
 use Rattle.hex_text.specs.declared.Reader.{Reader}
-use Rattle.hex_text.specs.declared.Given.{Given}
-use Rattle.hex_text.specs.declared.Given.TheVariants.{Byte, Nothing}
+use Rattle.std.specs.Prelude.{Option, Some, None}
 use Rattle.hex_text.specs.declared.Advance.{Advance}
 use Rattle.hex_text.specs.declared.Piece.{Piece}
-
--- a character in a range is at least the range's first
-pub within : (a b c : ℕ) → is_within a b c ≡ true → a ≤ c
-within a b c h = go (leb a c) refl h
-  where
-    go : (x : Bool) → leb a c ≡ x → (x && leb c b) ≡ true → a ≤ c
-    go true e k = leb-true a c e
-    go false e k = absurd (true≢false (sym k))
 
 -- ---- the text while it is read: the bytes so far over its start, the rest as it was
 
@@ -38,24 +29,24 @@ module _ (r : Reader) (text : List ℕ) where
         ap (λ (k : ℕ). get_or now k 0) (sym e) ∙ sym (get_or-drop n now (i - n) 0) ∙ ap (λ (l : List ℕ). get_or l (i - n) 0) g.rest ∙ get_or-drop n text (i - n) 0 ∙ ap (λ (k : ℕ). get_or text k 0) e
 
     module _ (h : i < length text) where
-      one_more : (q : Given) (next : Reader) → taken reader (get_or now i 0) ≡ record { reader = next; given = q }
+      one_more : (q : Option ℕ) (next : Reader) → taken reader (get_or now i 0) ≡ record { reader = next; given = q }
           → read_on (record { reader = next; bytes = take n now ++ bytes_of q }) (drop (suc i) text) ≡ unhexed r text
       unfolding read_on
       one_more q next e =
           let a : drop i text ≡ get_or now i 0 ∷ drop (suc i) text = drop-cons text i 0 h ∙ ap (λ (c : ℕ). c ∷ drop (suc i) text) (sym at_i) in
           sym (ap (λ (t : Advance). read_on (advanced (record { reader = reader; bytes = take n now }) t) (drop (suc i) text)) e) ∙ sym (ap (read_on (record { reader = reader; bytes = take n now })) a) ∙ g.read
 
-      pub going_on : (q : Given) (next : Reader) → taken reader (get_or now i 0) ≡ record { reader = next; given = q }
+      pub going_on : (q : Option ℕ) (next : Reader) → taken reader (get_or now i 0) ≡ record { reader = next; given = q }
           → Going (stored q n now) next (n + length (bytes_of q)) (i + 1)
-      going_on (Byte b) next e = record {
-        read = rw (add-one n, add-one i, take-suc-set now n b (omega (arith, g.same, g.behind))) (one_more (Byte b) next e);
+      going_on (Some b) next e = record {
+        read = rw (add-one n, add-one i, take-suc-set now n b (omega (arith, g.same, g.behind))) (one_more (Some b) next e);
         rest = drop-set-lt (n + 1) now n b (omega arith) ∙ sym (drop-drop 1 n now) ∙ ap (drop 1) g.rest ∙ drop-drop 1 n text;
         same = length-set now n b ∙ g.same;
         behind = omega (arith, g.behind);
         inside = omega arith;
       }
-      going_on Nothing next e = record {
-        read = rw (add-zero n, add-one i) (rw append-nil at (one_more Nothing next e));
+      going_on None next e = record {
+        read = rw (add-zero n, add-one i) (rw append-nil at (one_more None next e));
         rest = rw add-zero g.rest;
         same = g.same;
         behind = omega (arith, g.behind);

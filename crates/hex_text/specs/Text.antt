@@ -1,6 +1,6 @@
 -- Hex text: what bytes it gives, where it stops and why. The reader takes one character after the other; a text is read by a
 -- fold of `taken` over its characters, so that it may come in pieces.
-use Rattle.std.specs.Prelude.{ℕ, ◌+◌, ◌-◌, ◌*◌, ◌%◌, ◌^◌, Bool, ◌&&◌, ◌||◌, List, [], ◌∷◌, ◌++◌, length, ◌==◌, nat_le, slice_set}
+use Rattle.std.specs.Prelude.{ℕ, ◌+◌, ◌-◌, ◌*◌, ◌%◌, ◌^◌, Bool, ◌&&◌, ◌||◌, List, [], ◌∷◌, ◌++◌, length, ◌==◌, nat_le, slice_set, Option, Some, None}
 use Rattle.base.specs.Base.{pick}
 use Rattle.hex_text.specs.declared.Kind.{Kind}
 use Rattle.hex_text.specs.declared.Kind.TheVariants.{Digit, Blank, LineEnd, Hash, Other}
@@ -9,8 +9,6 @@ use Rattle.hex_text.specs.declared.Fault.TheVariants.{Character, LoneDigit}
 use Rattle.hex_text.specs.declared.Place.{Place}
 use Rattle.hex_text.specs.declared.Place.TheVariants.{Between, Inside, Comment, Stopped}
 use Rattle.hex_text.specs.declared.Reader.{Reader}
-use Rattle.hex_text.specs.declared.Given.{Given}
-use Rattle.hex_text.specs.declared.Given.TheVariants.{Byte, Nothing}
 use Rattle.hex_text.specs.declared.Advance.{Advance}
 use Rattle.hex_text.specs.declared.Piece.{Piece}
 
@@ -93,18 +91,18 @@ reader_after Comment r c k = in_comment r k
 reader_after (Stopped f) r c k = r
 
 -- the remainders never act: digits are below 16
-unfoldable pub second_digit : ℕ → Kind → Given
-second_digit h (Digit v) = Byte (h % 16 * 16 + v % 16)
-second_digit h Blank = Nothing
-second_digit h LineEnd = Nothing
-second_digit h Hash = Nothing
-second_digit h Other = Nothing
+unfoldable pub second_digit : ℕ → Kind → Option ℕ
+second_digit h (Digit v) = Some (h % 16 * 16 + v % 16)
+second_digit h Blank = None
+second_digit h LineEnd = None
+second_digit h Hash = None
+second_digit h Other = None
 
-unfoldable pub given_by : Place → Kind → Given
-given_by Between k = Nothing
+unfoldable pub given_by : Place → Kind → Option ℕ
+given_by Between k = None
 given_by (Inside h) k = second_digit h k
-given_by Comment k = Nothing
-given_by (Stopped f) k = Nothing
+given_by Comment k = None
+given_by (Stopped f) k = None
 
 unfoldable pub taken : Reader → ℕ → Advance
 taken r c = record { reader = reader_after r.place r c (kind_of c); given = given_by r.place (kind_of c) }
@@ -114,13 +112,13 @@ taken r c = record { reader = reader_after r.place r c (kind_of c); given = give
 abbrev pub start : Reader
 start = record { line = 1; column = 1; place = Between }
 
-abbrev pub bytes_of : Given → List ℕ
-bytes_of (Byte b) = b ∷ []
-bytes_of Nothing = []
+abbrev pub bytes_of : Option ℕ → List ℕ
+bytes_of (Some b) = b ∷ []
+bytes_of None = []
 
-abbrev pub stored : Given → ℕ → List ℕ → List ℕ
-stored (Byte b) n l = slice_set l n b
-stored Nothing n l = l
+abbrev pub stored : Option ℕ → ℕ → List ℕ → List ℕ
+stored (Some b) n l = slice_set l n b
+stored None n l = l
 
 -- the reader behind the characters read so far, and the bytes that they gave
 pub record Progress : Type 0 where

@@ -1,6 +1,6 @@
 -- What is promised of hex text: which characters are digits, what a character does at each place, that what is written is read
 -- back, and that a text may come in pieces. Document 01 has no hex text; lessons/README.md says what it is.
-use Rattle.std.specs.Prelude.{◌≡◌, ℕ, ◌+◌, ◌-◌, ◌*◌, ◌/◌, ◌%◌, ◌<◌, true, false, ◌||◌, List, [], ◌∷◌, ◌++◌, ◌==◌, nat_lt}
+use Rattle.std.specs.Prelude.{◌≡◌, ℕ, ◌+◌, ◌-◌, ◌*◌, ◌/◌, ◌%◌, ◌<◌, true, false, ◌||◌, List, [], ◌∷◌, ◌++◌, ◌==◌, nat_lt, Option, None}
 use Rattle.base.specs.Base.{pick}
 use Rattle.model.specs.Records.{Bytes}
 use Rattle.hex_text.specs.Text.{kind_numbers, fault_numbers, place_numbers, kind_of, taken, bytes_of, unhexed, read}
@@ -8,15 +8,13 @@ use Rattle.hex_text.specs.declared.Kind.{Kind}
 use Rattle.hex_text.specs.declared.Fault.{Fault}
 use Rattle.hex_text.specs.declared.Place.{Place}
 use Rattle.hex_text.specs.declared.Reader.{Reader}
-use Rattle.hex_text.specs.declared.Given.{Given}
-use Rattle.hex_text.specs.declared.Given.TheVariants.{Nothing}
 
 -- the numbers tell every two cases apart
 pub record CasesApart : Type 0 where
   pub kinds : (x y : Kind) → kind_numbers x ≡ kind_numbers y → x ≡ y
   pub faults : (x y : Fault) → fault_numbers x ≡ fault_numbers y → x ≡ y
   pub places : (x y : Place) → place_numbers x ≡ place_numbers y → x ≡ y
-  pub given : (x y : Given) → bytes_of x ≡ bytes_of y → x ≡ y
+  pub given : (x y : Option ℕ) → bytes_of x ≡ bytes_of y → x ≡ y
 
 -- ---- digits
 
@@ -51,7 +49,7 @@ pub record Places (r : Reader) (c : ℕ) : Type 0 where
   -- a comment goes to the end of its line
   pub comment : place_numbers r.place ≡ 2 ∷ [] → place_numbers (taken r c).reader.place ≡ pick (c == 10) (0 ∷ []) (2 ∷ [])
   -- at a fault the reader stays
-  pub stays : (f : List ℕ) → place_numbers r.place ≡ 3 ∷ f → taken r c ≡ record { reader = r; given = Nothing }
+  pub stays : (f : List ℕ) → place_numbers r.place ≡ 3 ∷ f → taken r c ≡ record { reader = r; given = None }
 
 -- ---- a text
 

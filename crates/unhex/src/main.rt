@@ -67,7 +67,7 @@ fn over(r: Reader) -> Round {
 
 // The bytes of a piece of text are written.
 fn written(r: Reader, text: &mut [u8]) -> Round {
-    let piece = hex_text::unhexed(r, text);
+    let piece = r.unhexed(text);
     let count = piece.count;
     let next = piece.reader;
     if !io::write_all(STDOUT_FILENO, &text[..count]) {
@@ -84,7 +84,7 @@ fn read_some<R: Read>(r: Reader, input: &mut R) -> Round {
     let mut buf = io::large_buffer();
     match input.read(&mut buf) {
         Ok(0) => {
-            goes_on(hex_text::ended(r));
+            goes_on(r.ended());
             over(r)
         }
         Ok(n) => written(r, &mut buf[..n]),
@@ -98,7 +98,7 @@ fn read_some<R: Read>(r: Reader, input: &mut R) -> Round {
 // A proved loop has to end, and nothing says that the input does: no run uses so many turns up.
 fn main(rt: HostRuntime) {
     let mut input = rt.stdin();
-    let mut r = hex_text::start();
+    let mut r = Reader::start();
     for _ in 0..u64::MAX {
         let x = read_some(r, &mut input);
         if !x.more {
