@@ -80,7 +80,7 @@ fn of_write(kind: u32, o: u16) -> u32
     ensures { result ≡ reasons.of_write kind o }
 {
     if kind == 18 {
-        return bits::pick_u32(o % 4 == 0, NO_REGISTER, MISALIGNED);
+        return bits::pick(o % 4 == 0, NO_REGISTER, MISALIGNED);
     }
     let keeps = [
         27, 27, 27, 27, 27, 27, 3, 4, 4, 4, 4, 2, 2, 2, 2, 27, 8, 8, 27, 5, 6, 7, 27,
@@ -102,7 +102,7 @@ fn of_bus(b: Bus, rest: u32) -> u32
     if b.off {
         return BUS_OFF;
     }
-    bits::pick_u32(b.own, OWN_FRAME, rest)
+    bits::pick(b.own, OWN_FRAME, rest)
 }
 
 fn of_reception(b: Bus) -> u32
@@ -110,7 +110,7 @@ fn of_reception(b: Bus) -> u32
 {
     of_bus(
         b,
-        bits::pick_u32(b.loopback, LOOPBACK, FILTER_INITIALIZATION),
+        bits::pick(b.loopback, LOOPBACK, FILTER_INITIALIZATION),
     )
 }
 
@@ -123,7 +123,7 @@ fn of_outcome(b: Bus, r: u8) -> u32
     if !b.own {
         return NO_OWN_FRAME;
     }
-    bits::pick_u32(b.loopback, ACKNOWLEDGED, ERROR_ACTIVE)
+    bits::pick(b.loopback, ACKNOWLEDGED, ERROR_ACTIVE)
 }
 
 fn of_frame(b: Bus, x: Frame) -> u32
@@ -135,7 +135,7 @@ fn of_frame(b: Bus, x: Frame) -> u32
     if bits::bit(0, x.identifier) {
         return IDENTIFIER_BIT;
     }
-    bits::pick_u32(15 < x.length, LENGTH_CODE, EXTENDED_BITS)
+    bits::pick(15 < x.length, LENGTH_CODE, EXTENDED_BITS)
 }
 
 fn of_error(b: Bus, k: u8, n: u8) -> u32
@@ -156,12 +156,12 @@ pub fn of_step(b: Bus, e: Step, g: Place) -> u32
 {
     match e {
         Step::Reset => NOTHING,
-        Step::Read(o) => bits::pick_u32(o % 4 == 0, NO_REGISTER, MISALIGNED),
+        Step::Read(o) => bits::pick(o % 4 == 0, NO_REGISTER, MISALIGNED),
         Step::Write(o, _) => of_write(g.kind, o),
         Step::Idle => OWN_FRAME,
         Step::BitTimes(_) => NO_BIT_TIMES,
         Step::Activity => NOT_ASLEEP,
-        Step::Start => of_bus(b, bits::pick_u32(b.empty, NONE_PENDING, SILENT)),
+        Step::Start => of_bus(b, bits::pick(b.empty, NONE_PENDING, SILENT)),
         Step::Outcome(r) => of_outcome(b, r),
         Step::Receive(x) => of_frame(b, x),
         Step::ReceiveError(k, n) => of_error(b, k, n),

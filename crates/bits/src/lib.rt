@@ -20,25 +20,8 @@ pub fn one(b: bool) -> u32
     if b { 1 } else { 0 }
 }
 
-pub fn pick_u8(b: bool, x: u8, y: u8) -> u8
-    ensures { result ≡ base.pick b x y }
-{
-    if b { x } else { y }
-}
-
-pub fn pick_u16(b: bool, x: u16, y: u16) -> u16
-    ensures { result ≡ base.pick b x y }
-{
-    if b { x } else { y }
-}
-
-pub fn pick_u32(b: bool, x: u32, y: u32) -> u32
-    ensures { result ≡ base.pick b x y }
-{
-    if b { x } else { y }
-}
-
-pub fn pick_bool(b: bool, x: bool, y: bool) -> bool
+// The first where b holds, else the second: a call, so that a proof has the choice as one value.
+pub fn pick<T: Copy>(b: bool, x: T, y: T) -> T
     ensures { result ≡ base.pick b x y }
 {
     if b { x } else { y }

@@ -5,7 +5,7 @@
 ghost use Rattle.std.specs.Prelude.{◌≡◌, ◌&&◌, ◌||◌, nat_le, nat_lt};
 ghost use Rattle.model.specs.Control as control;
 
-use bits::{bit, one, pick_bool, pick_u8, pick_u16, pick_u32};
+use bits::{bit, one, pick};
 use model::{Control, Errors, Mode};
 
 // ---- bits by name
@@ -209,7 +209,7 @@ pub fn entered(k: Control, m: Mode, off: bool) -> Control
     let old = k.mode;
     let slept = is_sleep(old);
     let begins = is_initialization(m) & !is_initialization(old);
-    let slaki = pick_bool(
+    let slaki = pick(
         is_sleep(m),
         k.slaki | (!slept & bit(17, k.ier)),
         k.slaki & !slept,
@@ -220,7 +220,7 @@ pub fn entered(k: Control, m: Mode, off: bool) -> Control
         btr: k.btr,
         timer: k.timer,
         mode: m,
-        recovery: pick_u8(begins, 0, k.recovery),
+        recovery: pick(begins, 0, k.recovery),
         reinitialized: k.reinitialized | (begins & off),
         erri: k.erri,
         wkui: k.wkui,
@@ -287,7 +287,7 @@ pub fn mcr_written(k: Control, w: u32) -> Control
 {
     let mut d = k;
     d.mcr = w / 0x10000 % 2 * 0x10000 + w % 256;
-    d.timer = pick_u16(bit(7, w), k.timer, 0);
+    d.timer = pick(bit(7, w), k.timer, 0);
     same_control(d)
 }
 
@@ -326,7 +326,7 @@ pub fn esr_written(e: Errors, w: u32) -> Errors
     Errors {
         tec: e.tec,
         rec: e.rec,
-        lec: pick_u8(w / 16 % 8 == 7, 7, e.lec),
+        lec: pick(w / 16 % 8 == 7, 7, e.lec),
     }
 }
 
@@ -372,7 +372,7 @@ pub fn counted(k: Control, e: Errors) -> Control
     let over = one_more & (127 <= k.recovery);
     let more = std::num::wrapping_add_u8(k.recovery, 1);
     let mut d = k;
-    d.recovery = pick_u8(over, 0, pick_u8(one_more, more, k.recovery));
+    d.recovery = pick(over, 0, pick(one_more, more, k.recovery));
     d.reinitialized = k.reinitialized & !over;
     same_control(d)
 }
@@ -398,8 +398,8 @@ pub fn idle_errors(k: Control, e: Errors) -> Errors
 {
     let over = counts(k, is_off(e.tec)) & (127 <= k.recovery);
     Errors {
-        tec: pick_u16(over, 0, e.tec),
-        rec: pick_u8(over, 0, e.rec),
+        tec: pick(over, 0, e.tec),
+        rec: pick(over, 0, e.rec),
         lec: e.lec,
     }
 }
@@ -411,7 +411,7 @@ pub fn ticked(k: Control, n: u16) -> Control
     let m = k.mode;
     let later = std::num::wrapping_add_u16(k.timer, n);
     let mut d = k;
-    d.timer = pick_u16(is_normal(m) & ttcm(k), later, k.timer);
+    d.timer = pick(is_normal(m) & ttcm(k), later, k.timer);
     same_control(d)
 }
 
@@ -428,7 +428,7 @@ pub fn woken(k: Control) -> Control
     ensures { result ≡ control.woken k }
 {
     let mut d = k;
-    d.mcr = pick_u32(awum(k), sleep_cleared(k.mcr), k.mcr);
+    d.mcr = pick(awum(k), sleep_cleared(k.mcr), k.mcr);
     d.wkui = true;
     same_control(d)
 }
@@ -487,7 +487,7 @@ pub fn received_errors(e: Errors) -> Errors
 {
     Errors {
         tec: e.tec,
-        rec: pick_u8(128 < e.rec, 120, less_one_u8(e.rec)),
+        rec: pick(128 < e.rec, 120, less_one_u8(e.rec)),
         lec: 0,
     }
 }
@@ -527,7 +527,7 @@ pub fn errors_changed(k: Control, e: Errors, d: Errors, coded: bool) -> Control
         btr: k.btr,
         timer: k.timer,
         mode: mode,
-        recovery: pick_u8(off, 0, k.recovery),
+        recovery: pick(off, 0, k.recovery),
         reinitialized: k.reinitialized & !off,
         erri: erri,
         wkui: k.wkui,

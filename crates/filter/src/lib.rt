@@ -10,7 +10,7 @@ ghost use Rattle.model.specs.Banks.{first_word, second_word, short_word};
 ghost use Rattle.model.specs.Search as filtering;
 ghost use Rattle.filter.specs.Places as places;
 
-use bits::pick_u32;
+use bits::pick;
 use model::{Bank, Fifo, FilterClass, FilterNumber, Filters};
 
 // ---- the words of a bank
@@ -121,7 +121,7 @@ fn first_number_of(g: Filters, f: Fifo, b: Bank) -> FilterNumber
 pub fn first_number(g: Filters, f: Fifo, b: Bank) -> FilterNumber
     ensures { result ≡ banks.first_number 14 g f b }
 {
-    let i = pick_u32(b.0 < 14, b.0, 14);
+    let i = pick(b.0 < 14, b.0, 14);
     first_number_of(g, f, Bank(i))
 }
 
@@ -467,7 +467,7 @@ fn lower(n0: u32, n1: u32) -> WinningFilter
 {
     let x = 2 * n0;
     let y = 2 * n1 + 1;
-    WinningFilter(pick_u32(x < y, x, y))
+    WinningFilter(pick(x < y, x, y))
 }
 
 // FIFO 0 has a match: the banks of FIFO 1 that can still win are searched.

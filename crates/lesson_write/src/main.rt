@@ -193,7 +193,7 @@ fn opened(p: Progress, n: u32, line: &[u8]) -> Progress {
     q.open = k + 1;
     q.starts[k] = std::num::wrapping_sub_usize(p.place, p.base);
     q.numbers[k] = p.lines;
-    q.left[k] = bits::pick_u32(once, 1, n);
+    q.left[k] = bits::pick(once, 1, n);
     if (n == 0) & (p.silent == 0) {
         q.silent = k + 1;
     }

@@ -43,7 +43,7 @@ fn word(l: Line, s: &[u8], place: usize) -> Line {
     let mut m = l.byte(b'\'');
     for i in 0..k {
         let c = byte_at(s, std::num::wrapping_add_usize(place, i));
-        m = m.byte(bits::pick_u8((c < 32) | (c == 127), b'?', c));
+        m = m.byte(bits::pick((c < 32) | (c == 127), b'?', c));
     }
     m.said(b"'|..'", (k < n) as u32, 0)
 }

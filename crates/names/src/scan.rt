@@ -79,7 +79,7 @@ pub fn run_end(s: &[u8], from: usize, k: Class) -> usize
 pub fn value(s: &[u8], from: usize, to: usize, hex: bool) -> u64
     ensures { result ≡ scan.value s.now from to hex }
 {
-    let base = bits::pick_u8(hex, 16, 10) as u64;
+    let base: u64 = bits::pick(hex, 16, 10);
     let mut a: u64 = 0;
     let mut i = from;
     while i < to {

@@ -81,23 +81,23 @@ pub fn write_refusal(g: Register, c: Core) -> u8
         Register::Btr => {
             let k = c.control;
             let m = k.mode;
-            bits::pick_u8(control::is_initialization(m), 0, 2)
+            bits::pick(control::is_initialization(m), 0, 2)
         }
-        Register::Ti(m) => bits::pick_u8(has_request(c, m), 2, 0),
-        Register::Tdt(m) => bits::pick_u8(has_request(c, m), 2, 0),
-        Register::Tdl(m) => bits::pick_u8(has_request(c, m), 2, 0),
-        Register::Tdh(m) => bits::pick_u8(has_request(c, m), 2, 0),
+        Register::Ti(m) => bits::pick(has_request(c, m), 2, 0),
+        Register::Tdt(m) => bits::pick(has_request(c, m), 2, 0),
+        Register::Tdl(m) => bits::pick(has_request(c, m), 2, 0),
+        Register::Tdh(m) => bits::pick(has_request(c, m), 2, 0),
         Register::Ri(_) => 3,
         Register::Rdt(_) => 3,
         Register::Rdl(_) => 3,
         Register::Rdh(_) => 3,
         Register::Fmr => 0,
-        Register::Fm1r => bits::pick_u8(f.finit, 0, 2),
-        Register::Fs1r => bits::pick_u8(f.finit, 0, 2),
-        Register::Ffa1r => bits::pick_u8(f.finit, 0, 2),
+        Register::Fm1r => bits::pick(f.finit, 0, 2),
+        Register::Fs1r => bits::pick(f.finit, 0, 2),
+        Register::Ffa1r => bits::pick(f.finit, 0, 2),
         Register::Fa1r => 0,
-        Register::R1(b) => bits::pick_u8(!f.finit & bits::bit(b.0, f.activation), 2, 0),
-        Register::R2(b) => bits::pick_u8(!f.finit & bits::bit(b.0, f.activation), 2, 0),
+        Register::R1(b) => bits::pick(!f.finit & bits::bit(b.0, f.activation), 2, 0),
+        Register::R2(b) => bits::pick(!f.finit & bits::bit(b.0, f.activation), 2, 0),
         Register::Absent => 1,
     }
 }
@@ -110,7 +110,7 @@ pub fn outcome_refusal(c: Core, res: u8) -> u8
     if 8 < res {
         return 5;
     }
-    bits::pick_u8(may_end(c, res), 0, 4)
+    bits::pick(may_end(c, res), 0, 4)
 }
 
 pub fn frame_refusal(c: Core, x: Frame) -> u8
@@ -119,14 +119,14 @@ pub fn frame_refusal(c: Core, x: Frame) -> u8
     if receive::malformed(x) {
         return 5;
     }
-    bits::pick_u8(may_receive(c), 0, 4)
+    bits::pick(may_receive(c), 0, 4)
 }
 
 pub fn receive_error_refusal(c: Core, code: u8, by: u8) -> u8
     ensures { result ≡ stepping.refusal c (steps.ReceiveError code by) }
 {
     if receive_error_in_range(code, by) {
-        return bits::pick_u8(may_receive(c), 0, 4);
+        return bits::pick(may_receive(c), 0, 4);
     }
     5
 }

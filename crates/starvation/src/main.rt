@@ -36,7 +36,7 @@ fn is_done(code: u8) -> bool {
 // To Normal, with TXFP or without; mailboxes 1 and 2 ask, then mailbox 0.
 fn opening(i: u32, txfp: bool) -> Step {
     match i {
-        0 => Step::Write(0x000, bits::pick_u32(txfp, 4, 0)),
+        0 => Step::Write(0x000, bits::pick(txfp, 4, 0)),
         1 => Step::Idle,
         2 => Step::Write(0x190, 0x20000001),
         3 => Step::Write(0x1A0, 0x20200001),

@@ -220,7 +220,7 @@ fn stop(p: Progress, code: u8, space: &[u8], out: &mut [u8]) -> Progress {
         return unopened(p, space, out);
     }
     if (code == 0) | (p.failed & (code == 6)) {
-        let why = bits::pick_u32(p.failed, 2, 1);
+        let why = bits::pick(p.failed, 2, 1);
         return stopped(p, Line::empty(), why, space, out);
     }
     let mut q = p;

@@ -28,7 +28,7 @@ fn item(l: Line, comma: u32, i: usize, w: u32) -> Line {
     l.said(b"|, |, |, ", comma, 0).said(
         b"mailbox 0 empty|mailbox 0 pending|mailbox 0 on the wire|mailbox 1 empty|mailbox 1 pending|mailbox 1 on the wire|mailbox 2 empty|mailbox 2 pending|mailbox 2 on the wire|FIFO0 %/3|FIFO0 %/3 FULL|FIFO0 %/3 OVR|FIFO0 %/3 FULL OVR|FIFO1 %/3|FIFO1 %/3 FULL|FIFO1 %/3 OVR|FIFO1 %/3 FULL OVR|TEC %|REC %|error active|error warning||error passive||||bus-off|recovery %/128|mode Normal|mode Initialization|mode Sleep|flags none|flags ERRI|flags WKUI|flags ERRI WKUI|flags SLAKI|flags ERRI SLAKI|flags WKUI SLAKI|flags ERRI WKUI SLAKI|timer %",
         part(i, w),
-        bits::pick_u32((i == 3) | (i == 4), w % 4, w) as u64,
+        bits::pick((i == 3) | (i == 4), w % 4, w) as u64,
     )
 }
 

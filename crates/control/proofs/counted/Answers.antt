@@ -5,4 +5,4 @@ use Rattle.control.proofs.counted.Goals as goal
 
 pub returns : goal.returns
 unfolding recovers counted
-returns c = simp (c.same_control.ensures, c.pick_u8-2.ensures, c.pick_u8.ensures, c.wrapping_add_u8-more.ensures.value, c.counts-one_more.ensures, c.is_off.ensures, idle_counts-joined)
+returns c = simp (c.same_control.ensures, c.pick-2.ensures, c.pick.ensures, c.wrapping_add_u8-more.ensures.value, c.counts-one_more.ensures, c.is_off.ensures, idle_counts-joined)

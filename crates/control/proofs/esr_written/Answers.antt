@@ -3,4 +3,4 @@ use Rattle.control.proofs.esr_written.Goals as goal
 
 pub returns : goal.returns
 unfolding esr_written
-returns c = simp c.pick_u8.ensures
+returns c = simp c.pick.ensures

@@ -5,4 +5,4 @@ use Rattle.control.proofs.idle_errors.Goals as goal
 
 pub returns : goal.returns
 unfolding recovers idle_errors
-returns c = simp (c.pick_u8.ensures, c.pick_u16.ensures, c.counts.ensures, c.is_off.ensures, idle_counts-joined)
+returns c = simp (c.pick-2.ensures, c.pick.ensures, c.counts.ensures, c.is_off.ensures, idle_counts-joined)

@@ -3,4 +3,4 @@ use Rattle.control.proofs.mcr_written.Goals as goal
 
 pub returns : goal.returns
 unfolding mcr_written
-returns c = simp (c.same_control.ensures, c.pick_u16.ensures, c.bit.ensures)
+returns c = simp (c.same_control.ensures, c.pick.ensures, c.bit.ensures)

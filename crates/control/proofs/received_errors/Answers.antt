@@ -3,4 +3,4 @@ use Rattle.control.proofs.received_errors.Goals as goal
 
 pub returns : goal.returns
 unfolding received_errors
-returns c = simp (c.pick_u8.ensures, c.less_one_u8.ensures)
+returns c = simp (c.pick.ensures, c.less_one_u8.ensures)

@@ -3,4 +3,4 @@ use Rattle.control.proofs.ticked.Goals as goal
 
 pub returns : goal.returns
 unfolding ticked
-returns c = simp (c.same_control.ensures, c.pick_u16.ensures, c.ttcm.ensures, c.is_normal.ensures, c.wrapping_add_u16-later.ensures.value)
+returns c = simp (c.same_control.ensures, c.pick.ensures, c.ttcm.ensures, c.is_normal.ensures, c.wrapping_add_u16-later.ensures.value)

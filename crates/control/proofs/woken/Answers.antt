@@ -3,4 +3,4 @@ use Rattle.control.proofs.woken.Goals as goal
 
 pub returns : goal.returns
 unfolding woken
-returns c = simp (c.same_control.ensures, c.pick_u32.ensures, c.sleep_cleared.ensures, c.awum.ensures)
+returns c = simp (c.same_control.ensures, c.pick.ensures, c.sleep_cleared.ensures, c.awum.ensures)

@@ -6,10 +6,10 @@ use Rattle.filter.proofs.BankWords.{banks_below-same}
 use Rattle.filter.proofs.first_number.Goals as goal
 
 pub first_number_of-requires : goal.first_number_of-requires
-first_number_of-requires c = omega (arith, c.pick_u32-i.ensures, banks_below-le 14 c.args.b)
+first_number_of-requires c = omega (arith, c.pick-i.ensures, banks_below-le 14 c.args.b)
 
 pub returns : goal.returns
 unfolding first_number
 returns c =
     let below = banks_below-same (bank (banks_below 14 c.args.b)) (banks_below-le 14 c.args.b) in
-    c.first_number_of.ensures.0 ∙ rw (c.pick_u32-i.ensures, below)
+    c.first_number_of.ensures.0 ∙ rw (c.pick-i.ensures, below)

@@ -4,4 +4,4 @@ use Rattle.filter.proofs.lower.Goals as goal
 
 pub returns : goal.returns
 unfolding lower
-returns c = rw c.pick_u32.ensures
+returns c = rw c.pick.ensures

@@ -8,4 +8,4 @@ returns-then-malformed c = simp (c.if-malformed.true, ← c.malformed.ensures)
 
 pub returns : goal.returns
 unfolding refusal
-returns c = simp (c.pick_u8.ensures, c.may_receive.ensures, c.if-malformed.false, ← c.malformed.ensures)
+returns c = simp (c.pick.ensures, c.may_receive.ensures, c.if-malformed.false, ← c.malformed.ensures)

@@ -9,4 +9,4 @@ returns-then-res-gt8 c = simp (lt-ltb _ _ c.if-res-gt8.true)
 
 pub returns : goal.returns
 unfolding refusal
-returns c = simp (c.pick_u8.ensures, c.may_end.ensures, le-ltb _ _ c.if-res-gt8.false)
+returns c = simp (c.pick.ensures, c.may_end.ensures, le-ltb _ _ c.if-res-gt8.false)

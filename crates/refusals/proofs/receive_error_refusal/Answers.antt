@@ -4,7 +4,7 @@ use Rattle.refusals.proofs.receive_error_refusal.Goals as goal
 
 pub returns-then-receive_error_in_range : goal.returns-then-receive_error_in_range
 unfolding refusal
-returns-then-receive_error_in_range c = simp (c.pick_u8.ensures, c.may_receive.ensures, c.if-receive_error_in_range.true, ← c.receive_error_in_range.ensures)
+returns-then-receive_error_in_range c = simp (c.pick.ensures, c.may_receive.ensures, c.if-receive_error_in_range.true, ← c.receive_error_in_range.ensures)
 
 pub returns : goal.returns
 unfolding refusal

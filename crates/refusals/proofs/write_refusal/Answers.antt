@@ -27,23 +27,23 @@ returns-in-Esr c = simp c.in-Esr.is
 
 pub returns-in-Btr : goal.returns-in-Btr
 unfolding write_refusal
-returns-in-Btr c = simp (c.pick_u8.ensures, c.is_initialization.ensures, c.in-Btr.is)
+returns-in-Btr c = simp (c.pick.ensures, c.is_initialization.ensures, c.in-Btr.is)
 
 pub returns-in-Ti : goal.returns-in-Ti
 unfolding write_refusal
-returns-in-Ti c = simp (c.pick_u8-in-Ti.ensures, c.has_request.ensures, c.in-Ti.is)
+returns-in-Ti c = simp (c.pick-in-Ti.ensures, c.has_request.ensures, c.in-Ti.is)
 
 pub returns-in-Tdt : goal.returns-in-Tdt
 unfolding write_refusal
-returns-in-Tdt c = simp (c.pick_u8-in-Tdt.ensures, c.has_request-in-Tdt.ensures, c.in-Tdt.is)
+returns-in-Tdt c = simp (c.pick-in-Tdt.ensures, c.has_request-in-Tdt.ensures, c.in-Tdt.is)
 
 pub returns-in-Tdl : goal.returns-in-Tdl
 unfolding write_refusal
-returns-in-Tdl c = simp (c.pick_u8-in-Tdl.ensures, c.has_request-in-Tdl.ensures, c.in-Tdl.is)
+returns-in-Tdl c = simp (c.pick-in-Tdl.ensures, c.has_request-in-Tdl.ensures, c.in-Tdl.is)
 
 pub returns-in-Tdh : goal.returns-in-Tdh
 unfolding write_refusal
-returns-in-Tdh c = simp (c.pick_u8-in-Tdh.ensures, c.has_request-in-Tdh.ensures, c.in-Tdh.is)
+returns-in-Tdh c = simp (c.pick-in-Tdh.ensures, c.has_request-in-Tdh.ensures, c.in-Tdh.is)
 
 pub returns-in-Ri : goal.returns-in-Ri
 unfolding write_refusal
@@ -67,15 +67,15 @@ returns-in-Fmr c = simp c.in-Fmr.is
 
 pub returns-in-Fm1r : goal.returns-in-Fm1r
 unfolding write_refusal
-returns-in-Fm1r c = simp (c.pick_u8-in-Fm1r.ensures, c.in-Fm1r.is)
+returns-in-Fm1r c = simp (c.pick-in-Fm1r.ensures, c.in-Fm1r.is)
 
 pub returns-in-Fs1r : goal.returns-in-Fs1r
 unfolding write_refusal
-returns-in-Fs1r c = simp (c.pick_u8-in-Fs1r.ensures, c.in-Fs1r.is)
+returns-in-Fs1r c = simp (c.pick-in-Fs1r.ensures, c.in-Fs1r.is)
 
 pub returns-in-Ffa1r : goal.returns-in-Ffa1r
 unfolding write_refusal
-returns-in-Ffa1r c = simp (c.pick_u8-in-Ffa1r.ensures, c.in-Ffa1r.is)
+returns-in-Ffa1r c = simp (c.pick-in-Ffa1r.ensures, c.in-Ffa1r.is)
 
 pub returns-in-Fa1r : goal.returns-in-Fa1r
 unfolding write_refusal
@@ -83,11 +83,11 @@ returns-in-Fa1r c = simp c.in-Fa1r.is
 
 pub returns-in-R1 : goal.returns-in-R1
 unfolding write_refusal
-returns-in-R1 c = simp (c.pick_u8-in-R1.ensures, c.bit.ensures, c.in-R1.is)
+returns-in-R1 c = simp (c.pick-in-R1.ensures, c.bit.ensures, c.in-R1.is)
 
 pub returns-in-R2 : goal.returns-in-R2
 unfolding write_refusal
-returns-in-R2 c = simp (c.pick_u8-in-R2.ensures, c.bit-in-R2.ensures, c.in-R2.is)
+returns-in-R2 c = simp (c.pick-in-R2.ensures, c.bit-in-R2.ensures, c.in-R2.is)
 
 pub returns-in-Absent : goal.returns-in-Absent
 unfolding write_refusal

@@ -11,4 +11,4 @@ returns-then-b c = simp (c.if-b.true, c.if-not-b.false)
 
 pub returns : goal.returns
 unfolding of_bus
-returns c = simp (c.pick_u32.ensures, c.if-b.false, c.if-not-b.false)
+returns c = simp (c.pick.ensures, c.if-b.false, c.if-not-b.false)

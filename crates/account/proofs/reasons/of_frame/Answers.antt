@@ -11,4 +11,4 @@ returns-then-bit c = simp (c.if-bit.true, ← c.bit.ensures, c.if-not-malformed.
 
 pub returns : goal.returns
 unfolding of_frame
-returns c = simp (c.pick_u32.ensures, c.if-bit.false, ← c.bit.ensures, c.if-not-malformed.false, ← c.malformed.ensures)
+returns c = simp (c.pick.ensures, c.if-bit.false, ← c.bit.ensures, c.if-not-malformed.false, ← c.malformed.ensures)

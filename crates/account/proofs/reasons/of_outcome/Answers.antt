@@ -12,4 +12,4 @@ returns-then-not-b c = simp (c.if-not-b.true, le-ltb _ _ c.if-r-gt8.false)
 
 pub returns : goal.returns
 unfolding of_outcome
-returns c = simp (c.pick_u32.ensures, c.if-not-b.false, le-ltb _ _ c.if-r-gt8.false)
+returns c = simp (c.pick.ensures, c.if-not-b.false, le-ltb _ _ c.if-r-gt8.false)

@@ -3,4 +3,4 @@ use Rattle.account.proofs.reasons.of_reception.Goals as goal
 
 pub returns : goal.returns
 unfolding of_reception
-returns c = simp (c.of_bus.ensures, c.pick_u32.ensures)
+returns c = simp (c.of_bus.ensures, c.pick.ensures)

@@ -7,7 +7,7 @@ returns-in-Reset c = simp c.in-Reset.is
 
 pub returns-in-Read : goal.returns-in-Read
 unfolding of_step of_offset
-returns-in-Read c = simp (c.pick_u32.ensures, c.in-Read.is)
+returns-in-Read c = simp (c.pick.ensures, c.in-Read.is)
 
 pub returns-in-Write : goal.returns-in-Write
 unfolding of_step
@@ -27,7 +27,7 @@ returns-in-Activity c = simp c.in-Activity.is
 
 pub returns-in-Start : goal.returns-in-Start
 unfolding of_step of_start
-returns-in-Start c = simp (c.of_bus.ensures, c.pick_u32-in-Start.ensures, c.in-Start.is)
+returns-in-Start c = simp (c.of_bus.ensures, c.pick-in-Start.ensures, c.in-Start.is)
 
 pub returns-in-Outcome : goal.returns-in-Outcome
 unfolding of_step

@@ -4,7 +4,7 @@ use Rattle.account.proofs.reasons.of_write.Goals as goal
 
 pub returns-then-kind-eq18 : goal.returns-then-kind-eq18
 unfolding of_write of_offset
-returns-then-kind-eq18 c = simp (c.pick_u32.ensures, eq-eqb _ _ c.if-kind-eq18.true)
+returns-then-kind-eq18 c = simp (c.pick.ensures, eq-eqb _ _ c.if-kind-eq18.true)
 
 pub returns-then-i-ge23 : goal.returns-then-i-ge23
 unfolding of_write

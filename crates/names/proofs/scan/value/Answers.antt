@@ -20,15 +20,15 @@ unfolding scan.value
 loop-i-init c = (omega arith, refl)
 
 pub overflow_mul-a : goal.overflow_mul-a
-overflow_mul-a c = omega (arith, fits c.loop-i.a c.digit_of-d.result c.pick_u8-base.result c.args.hex c.pick_u8-base.ensures c.loop-i.invariant.0 (search rules))
+overflow_mul-a c = omega (arith, fits c.loop-i.a c.digit_of-d.result c.pick-base.result c.args.hex c.pick-base.ensures c.loop-i.invariant.0 (search rules))
 
 pub overflow_add-a : goal.overflow_add-a
-overflow_add-a c = omega (arith, fits c.loop-i.a c.digit_of-d.result c.pick_u8-base.result c.args.hex c.pick_u8-base.ensures c.loop-i.invariant.0 (search rules))
+overflow_add-a c = omega (arith, fits c.loop-i.a c.digit_of-d.result c.pick-base.result c.args.hex c.pick-base.ensures c.loop-i.invariant.0 (search rules))
 
 pub returns-then-base-d : goal.returns-then-base-d
 returns-then-base-d c =
     let d = rw c.byte_at.ensures at c.digit_of-d.ensures in
-    let e = c.pick_u8-base.ensures in
+    let e = c.pick-base.ensures in
     sym (value-stops c.args.s.now c.loop-i.i c.args.to c.loop-i.a c.args.hex c.loop-i-test.true (digit-ends c.loop-i.a _ _ _ c.args.hex d e c.if-base-d.true c.loop-i.invariant.0)) ∙ c.loop-i.invariant.1
 
 pub overflow_add-i : goal.overflow_add-i
@@ -40,9 +40,9 @@ loop-i-smaller c = omega arith
 pub loop-i-preserved : goal.loop-i-preserved
 loop-i-preserved c =
     let d = rw c.byte_at.ensures at c.digit_of-d.ensures in
-    let e = c.pick_u8-base.ensures in
+    let e = c.pick-base.ensures in
     let x = c.digit_of-d.result in
-    let y = c.pick_u8-base.result in
+    let y = c.pick-base.result in
     let f = leb-false y x (or_l (leb y x) _ c.if-base-d.false) in
     let g = leb-false (2 ^ 32) (c.loop-i.a * y + x) (or_r (leb y x) _ c.if-base-d.false) in
     (g, rw (← (digit-more c.loop-i.a _ _ _ c.args.hex d e f c.loop-i.invariant.0 g), ← (value_on_lem c.args.s.now c.loop-i.i c.args.to c.loop-i.a c.args.hex c.loop-i-test.true)) c.loop-i.invariant.1)
