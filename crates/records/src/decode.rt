@@ -1,6 +1,6 @@
 // The decoders: the step of a record's body, one function for each tag that has one. Each takes the part of the script
 // where the body lies, which is as long as the tag says.
-ghost use Rattle.std.specs.Prelude.{◌≡◌, true, ◌+◌, ◌*◌, ◌≤◌, length};
+ghost use Rattle.std.specs.Prelude.{◌≡◌, ◌+◌, ◌≤◌, length};
 ghost use Rattle.model.specs.Script as scripts;
 ghost use Rattle.model.specs.declared.Step.TheVariants as step;
 
@@ -8,33 +8,18 @@ use model::{Frame, Step};
 
 // ---- numbers, low byte first
 
-pub fn pair(low: u8, high: u8) -> u16
-    ensures { result ≡ low + high * 256 }
-{
-    (low as u16) + (high as u16) * 256
-}
-
-pub fn word(a: u8, b: u8, c: u8, d: u8) -> u32
-    ensures { result ≡ a + b * 256 + (c + d * 256) * 65536 }
-{
-    (pair(a, b) as u32) + (pair(c, d) as u32) * 65536
-}
-
-fn number16(b: &[u8], i: usize) -> u16
+pub(crate) fn number16(b: &[u8], i: usize) -> u16
     requires { i + 2 ≤ length b.now }
     ensures { result ≡ scripts.number16 b.now i }
 {
-    let j = i + 1;
-    pair(b[i], b[j])
+    u16::from_le_bytes([b[i], b[i + 1]])
 }
 
 fn number32(b: &[u8], i: usize) -> u32
     requires { i + 4 ≤ length b.now }
     ensures { result ≡ scripts.number32 b.now i }
 {
-    let low = number16(b, i);
-    let high = number16(b, i + 2);
-    (low as u32) + (high as u32) * 65536
+    u32::from_le_bytes([b[i], b[i + 1], b[i + 2], b[i + 3]])
 }
 
 // ---- a decoder for each tag that has a body
@@ -71,15 +56,11 @@ pub(crate) fn receive_step(b: &[u8]) -> Step
     requires { 13 ≤ length b.now }
     ensures { result ≡ step.Receive (record { identifier = (scripts.number32 b.now 0); low = (scripts.number32 b.now 5); high = (scripts.number32 b.now 9); length = (scripts.byte_at b.now 4) }) }
 {
-    let identifier = number32(b, 0);
-    let length = b[4];
-    let low = number32(b, 5);
-    let high = number32(b, 9);
     Step::Receive(Frame {
-        identifier: identifier,
-        low: low,
-        high: high,
-        length: length,
+        identifier: number32(b, 0),
+        low: number32(b, 5),
+        high: number32(b, 9),
+        length: b[4],
     })
 }
 

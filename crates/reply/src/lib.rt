@@ -4,39 +4,35 @@
 ghost use Rattle.std.specs.Prelude.{◌≡◌};
 ghost use Rattle.model.specs.Replies as reading;
 
-use model::{Answer, ReplyReading};
-use records::decode::{pair, word};
+use model::{Answer, Refusal, ReplyReading};
 
 // The reply that begins at a place.
+#[tactic(auto, unfolding(model::specs::Replies::reply_reading))]
 pub fn reading(replies: &[u8], place: usize) -> ReplyReading
     ensures { result ≡ reading.reply_reading replies.now place }
 {
-    let n = replies.len();
-    let left = n - bits::least(place, n);
+    let left = replies.len().saturating_sub(place);
     if left < 3 {
-        return ReplyReading::Malformed(6);
+        return Err(Refusal::Short);
     }
     if replies[place] != 0x81 {
-        return ReplyReading::Malformed(7);
+        return Err(Refusal::UnknownTag);
     }
-    let i = place + 1;
-    let j = i + 1;
-    if pair(replies[i], replies[j]) != 6 {
-        return ReplyReading::Malformed(8);
+    if u16::from_le_bytes([replies[place + 1], replies[place + 2]]) != 6 {
+        return Err(Refusal::WrongLength);
     }
     if left < 9 {
-        return ReplyReading::Malformed(6);
+        return Err(Refusal::Short);
     }
-    let a = place + 3;
-    let b = place + 4;
-    let c = place + 5;
-    let d = c + 1;
-    let e = c + 2;
-    let f = e + 1;
     let answer = Answer {
-        code: replies[a],
-        lines: replies[b],
-        word: word(replies[c], replies[d], replies[e], replies[f]),
+        code: replies[place + 3],
+        lines: replies[place + 4],
+        word: u32::from_le_bytes([
+            replies[place + 5],
+            replies[place + 6],
+            replies[place + 7],
+            replies[place + 8],
+        ]),
     };
-    ReplyReading::Said(answer, place + 9)
+    Ok((answer, place + 9))
 }

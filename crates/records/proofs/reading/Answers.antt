@@ -1,122 +1,59 @@
--- Each arm by what is read at a header of its tag, and by the arm's own tests of the length and the body.
-use mathlib.Core.Path.{refl}
-use native.Mathlib.Nat.{add-zero}
-use Rattle.model.specs.Script.{body_length, decoded, reading}
-use Rattle.records.proofs.Headers.{by_header, no_tag}
-use borrow.Author.Tests.{eq-eqb, ne_eqb, lt-ltb, le-ltb, le-leb, lt-leb}
+-- The end and a short header by their tests; each tag by why its body can't be read.
+use Rattle.std.proofs.Common.{refl, rules}
+use Rattle.std.proofs.lemmas.Result.{err_from_is_err_and}
+use Rattle.model.specs.Script.{byte_at, body_length, reading}
+use Rattle.records.proofs.Headers.{by_refusal, no_tag}
+use borrow.Author.Tests.{lt-ltb, le-ltb, le-leb, lt-leb}
 use Rattle.records.proofs.reading.Goals as goal
 
-pub returns-then-n-place : goal.returns-then-n-place
+pub returns-then-script-place : goal.returns-then-script-place
 unfolding reading
-returns-then-n-place c = simp (le-leb _ _ c.if-n-place.true)
+returns-then-script-place c = simp (le-leb _ _ c.if-script-place.true)
 
-pub returns-then-left-lt3 : goal.returns-then-left-lt3
+pub returns-then-script-place-lt3 : goal.returns-then-script-place-lt3
 unfolding reading
-returns-then-left-lt3 c = simp (lt-ltb _ _ c.if-left-lt3.true, lt-leb _ _ c.if-n-place.false)
+returns-then-script-place-lt3 c = simp (lt-ltb _ _ c.if-script-place-lt3.true, lt-leb _ _ c.if-script-place.false)
 
-pub returns-then-length-ne0 : goal.returns-then-length-ne0
+pub returns-in_err-behind-in-1 : goal.returns-in_err-behind-in-1
 unfolding body_length
-returns-then-length-ne0 c = by_header _ _ _ _ _ c.if-left-lt3.false c.in-1.is c.pair-length.ensures (simp (ne_eqb _ _ c.if-length-ne0.true))
+returns-in_err-behind-in-1 c = let p = err_from_is_err_and c.from_residual.result c.from_residual.ensures.1 in rw (p.1, p.2) (by_refusal _ _ 1 _ c.if-script-place-lt3.false c.in-1.is refl c.in_err-behind-in-1.ensures.err)
 
-pub returns-then-length-ne2 : goal.returns-then-length-ne2
+pub returns-in_err-b-in-2 : goal.returns-in_err-b-in-2
 unfolding body_length
-returns-then-length-ne2 c = by_header _ _ _ _ _ c.if-left-lt3.false c.in-2.is c.pair-length.ensures (simp (ne_eqb _ _ c.if-length-ne2.true))
+returns-in_err-b-in-2 c = let p = err_from_is_err_and c.from_residual-in_err-b-in-2.result c.from_residual-in_err-b-in-2.ensures.1 in rw (p.1, p.2) (by_refusal _ _ 2 _ c.if-script-place-lt3.false c.in-2.is refl c.in_err-b-in-2.ensures.err)
 
-pub returns-then-left-lt5 : goal.returns-then-left-lt5
+pub returns-in_err-b-in-3 : goal.returns-in_err-b-in-3
 unfolding body_length
-returns-then-left-lt5 c = by_header _ _ _ _ _ c.if-left-lt3.false c.in-2.is c.pair-length.ensures (simp (eq-eqb _ _ c.if-length-ne2.false, lt-ltb _ _ c.if-left-lt5.true))
+returns-in_err-b-in-3 c = let p = err_from_is_err_and c.from_residual-in_err-b-in-3.result c.from_residual-in_err-b-in-3.ensures.1 in rw (p.1, p.2) (by_refusal _ _ 3 _ c.if-script-place-lt3.false c.in-3.is refl c.in_err-b-in-3.ensures.err)
 
-pub returns-then-length-ne6 : goal.returns-then-length-ne6
+pub returns-in_err-behind-in-4 : goal.returns-in_err-behind-in-4
 unfolding body_length
-returns-then-length-ne6 c = by_header _ _ _ _ _ c.if-left-lt3.false c.in-3.is c.pair-length.ensures (simp (ne_eqb _ _ c.if-length-ne6.true))
+returns-in_err-behind-in-4 c = let p = err_from_is_err_and c.from_residual-in_err-behind-in-4.result c.from_residual-in_err-behind-in-4.ensures.1 in rw (p.1, p.2) (by_refusal _ _ 4 _ c.if-script-place-lt3.false c.in-4.is refl c.in_err-behind-in-4.ensures.err)
 
-pub returns-then-left-lt9 : goal.returns-then-left-lt9
+pub returns-in_err-b-in-5 : goal.returns-in_err-b-in-5
 unfolding body_length
-returns-then-left-lt9 c = by_header _ _ _ _ _ c.if-left-lt3.false c.in-3.is c.pair-length.ensures (simp (eq-eqb _ _ c.if-length-ne6.false, lt-ltb _ _ c.if-left-lt9.true))
+returns-in_err-b-in-5 c = let p = err_from_is_err_and c.from_residual-in_err-b-in-5.result c.from_residual-in_err-b-in-5.ensures.1 in rw (p.1, p.2) (by_refusal _ _ 5 _ c.if-script-place-lt3.false c.in-5.is refl c.in_err-b-in-5.ensures.err)
 
-pub returns-then-length-ne0-2 : goal.returns-then-length-ne0-2
+pub returns-in_err-behind-in-6 : goal.returns-in_err-behind-in-6
 unfolding body_length
-returns-then-length-ne0-2 c = by_header _ _ _ _ _ c.if-left-lt3.false c.in-4.is c.pair-length.ensures (simp (ne_eqb _ _ c.if-length-ne0-2.true))
+returns-in_err-behind-in-6 c = let p = err_from_is_err_and c.from_residual-in_err-behind-in-6.result c.from_residual-in_err-behind-in-6.ensures.1 in rw (p.1, p.2) (by_refusal _ _ 6 _ c.if-script-place-lt3.false c.in-6.is refl c.in_err-behind-in-6.ensures.err)
 
-pub returns-then-length-ne2-2 : goal.returns-then-length-ne2-2
+pub returns-in_err-behind-in-7 : goal.returns-in_err-behind-in-7
 unfolding body_length
-returns-then-length-ne2-2 c = by_header _ _ _ _ _ c.if-left-lt3.false c.in-5.is c.pair-length.ensures (simp (ne_eqb _ _ c.if-length-ne2-2.true))
+returns-in_err-behind-in-7 c = let p = err_from_is_err_and c.from_residual-in_err-behind-in-7.result c.from_residual-in_err-behind-in-7.ensures.1 in rw (p.1, p.2) (by_refusal _ _ 7 _ c.if-script-place-lt3.false c.in-7.is refl c.in_err-behind-in-7.ensures.err)
 
-pub returns-then-left-lt5-2 : goal.returns-then-left-lt5-2
+pub returns-in_err-b-in-8 : goal.returns-in_err-b-in-8
 unfolding body_length
-returns-then-left-lt5-2 c = by_header _ _ _ _ _ c.if-left-lt3.false c.in-5.is c.pair-length.ensures (simp (eq-eqb _ _ c.if-length-ne2-2.false, lt-ltb _ _ c.if-left-lt5-2.true))
+returns-in_err-b-in-8 c = let p = err_from_is_err_and c.from_residual-in_err-b-in-8.result c.from_residual-in_err-b-in-8.ensures.1 in rw (p.1, p.2) (by_refusal _ _ 8 _ c.if-script-place-lt3.false c.in-8.is refl c.in_err-b-in-8.ensures.err)
 
-pub returns-then-length-ne0-3 : goal.returns-then-length-ne0-3
+pub returns-in_err-b-in-9 : goal.returns-in_err-b-in-9
 unfolding body_length
-returns-then-length-ne0-3 c = by_header _ _ _ _ _ c.if-left-lt3.false c.in-6.is c.pair-length.ensures (simp (ne_eqb _ _ c.if-length-ne0-3.true))
+returns-in_err-b-in-9 c = let p = err_from_is_err_and c.from_residual-in_err-b-in-9.result c.from_residual-in_err-b-in-9.ensures.1 in rw (p.1, p.2) (by_refusal _ _ 9 _ c.if-script-place-lt3.false c.in-9.is refl c.in_err-b-in-9.ensures.err)
 
-pub returns-then-length-ne0-4 : goal.returns-then-length-ne0-4
+pub returns-in_err-b-in-10 : goal.returns-in_err-b-in-10
 unfolding body_length
-returns-then-length-ne0-4 c = by_header _ _ _ _ _ c.if-left-lt3.false c.in-7.is c.pair-length.ensures (simp (ne_eqb _ _ c.if-length-ne0-4.true))
-
-pub returns-then-length-ne1 : goal.returns-then-length-ne1
-unfolding body_length
-returns-then-length-ne1 c = by_header _ _ _ _ _ c.if-left-lt3.false c.in-8.is c.pair-length.ensures (simp (ne_eqb _ _ c.if-length-ne1.true))
-
-pub returns-then-left-lt4 : goal.returns-then-left-lt4
-unfolding body_length
-returns-then-left-lt4 c = by_header _ _ _ _ _ c.if-left-lt3.false c.in-8.is c.pair-length.ensures (simp (eq-eqb _ _ c.if-length-ne1.false, lt-ltb _ _ c.if-left-lt4.true))
-
-pub returns-then-length-ne13 : goal.returns-then-length-ne13
-unfolding body_length
-returns-then-length-ne13 c = by_header _ _ _ _ _ c.if-left-lt3.false c.in-9.is c.pair-length.ensures (simp (ne_eqb _ _ c.if-length-ne13.true))
-
-pub returns-then-left-lt16 : goal.returns-then-left-lt16
-unfolding body_length
-returns-then-left-lt16 c = by_header _ _ _ _ _ c.if-left-lt3.false c.in-9.is c.pair-length.ensures (simp (eq-eqb _ _ c.if-length-ne13.false, lt-ltb _ _ c.if-left-lt16.true))
-
-pub returns-then-length-ne2-3 : goal.returns-then-length-ne2-3
-unfolding body_length
-returns-then-length-ne2-3 c = by_header _ _ _ _ _ c.if-left-lt3.false c.in-10.is c.pair-length.ensures (simp (ne_eqb _ _ c.if-length-ne2-3.true))
-
-pub returns-then-left-lt5-3 : goal.returns-then-left-lt5-3
-unfolding body_length
-returns-then-left-lt5-3 c = by_header _ _ _ _ _ c.if-left-lt3.false c.in-10.is c.pair-length.ensures (simp (eq-eqb _ _ c.if-length-ne2-3.false, lt-ltb _ _ c.if-left-lt5-3.true))
-
-pub returns-else-length-ne0 : goal.returns-else-length-ne0
-unfolding body_length decoded
-returns-else-length-ne0 c = by_header _ _ _ _ _ c.if-left-lt3.false c.in-1.is c.pair-length.ensures (simp (eq-eqb _ _ c.if-length-ne0.false, le-ltb _ _ c.if-left-lt3.false, add-zero))
-
-pub returns-else-left-lt5 : goal.returns-else-left-lt5
-unfolding body_length decoded
-returns-else-left-lt5 c = by_header _ _ _ _ _ c.if-left-lt3.false c.in-2.is c.pair-length.ensures (simp (c.read_step.ensures, eq-eqb _ _ c.if-length-ne2.false, le-ltb _ _ c.if-left-lt5.false))
-
-pub returns-else-left-lt9 : goal.returns-else-left-lt9
-unfolding body_length decoded
-returns-else-left-lt9 c = by_header _ _ _ _ _ c.if-left-lt3.false c.in-3.is c.pair-length.ensures (simp (c.write_step.ensures, eq-eqb _ _ c.if-length-ne6.false, le-ltb _ _ c.if-left-lt9.false))
-
-pub returns-else-length-ne0-2 : goal.returns-else-length-ne0-2
-unfolding body_length decoded
-returns-else-length-ne0-2 c = by_header _ _ _ _ _ c.if-left-lt3.false c.in-4.is c.pair-length.ensures (simp (eq-eqb _ _ c.if-length-ne0-2.false, le-ltb _ _ c.if-left-lt3.false, add-zero))
-
-pub returns-else-left-lt5-2 : goal.returns-else-left-lt5-2
-unfolding body_length decoded
-returns-else-left-lt5-2 c = by_header _ _ _ _ _ c.if-left-lt3.false c.in-5.is c.pair-length.ensures (simp (c.bit_times_step.ensures, eq-eqb _ _ c.if-length-ne2-2.false, le-ltb _ _ c.if-left-lt5-2.false))
-
-pub returns-else-length-ne0-3 : goal.returns-else-length-ne0-3
-unfolding body_length decoded
-returns-else-length-ne0-3 c = by_header _ _ _ _ _ c.if-left-lt3.false c.in-6.is c.pair-length.ensures (simp (eq-eqb _ _ c.if-length-ne0-3.false, le-ltb _ _ c.if-left-lt3.false, add-zero))
-
-pub returns-else-length-ne0-4 : goal.returns-else-length-ne0-4
-unfolding body_length decoded
-returns-else-length-ne0-4 c = by_header _ _ _ _ _ c.if-left-lt3.false c.in-7.is c.pair-length.ensures (simp (eq-eqb _ _ c.if-length-ne0-4.false, le-ltb _ _ c.if-left-lt3.false, add-zero))
-
-pub returns-else-left-lt4 : goal.returns-else-left-lt4
-unfolding body_length decoded
-returns-else-left-lt4 c = by_header _ _ _ _ _ c.if-left-lt3.false c.in-8.is c.pair-length.ensures (simp (c.outcome_step.ensures, eq-eqb _ _ c.if-length-ne1.false, le-ltb _ _ c.if-left-lt4.false))
-
-pub returns-else-left-lt16 : goal.returns-else-left-lt16
-unfolding body_length decoded
-returns-else-left-lt16 c = by_header _ _ _ _ _ c.if-left-lt3.false c.in-9.is c.pair-length.ensures (simp (c.receive_step.ensures, eq-eqb _ _ c.if-length-ne13.false, le-ltb _ _ c.if-left-lt16.false))
-
-pub returns-else-left-lt5-3 : goal.returns-else-left-lt5-3
-unfolding body_length decoded
-returns-else-left-lt5-3 c = by_header _ _ _ _ _ c.if-left-lt3.false c.in-10.is c.pair-length.ensures (simp (c.receive_error_step.ensures, eq-eqb _ _ c.if-length-ne2-3.false, le-ltb _ _ c.if-left-lt5-3.false))
+returns-in_err-b-in-10 c = let p = err_from_is_err_and c.from_residual-in_err-b-in-10.result c.from_residual-in_err-b-in-10.ensures.1 in rw (p.1, p.2) (by_refusal _ _ 10 _ c.if-script-place-lt3.false c.in-10.is refl c.in_err-b-in-10.ensures.err)
 
 pub returns-in_default : goal.returns-in_default
-returns-in_default c = by_header _ _ _ _ _ c.if-left-lt3.false refl c.pair-length.ensures (simp (no_tag _ c.in_default.in_default-own.rest))
+unfolding reading
+returns-in_default c = simp (le-ltb _ _ c.if-script-place-lt3.false, lt-leb _ _ c.if-script-place.false, no_tag (byte_at c.args.script.now c.args.place) (search rules))
