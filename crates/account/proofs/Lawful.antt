@@ -3,13 +3,12 @@ use Rattle.std.proofs.Common.{Some, None, Ok, Err}
 use mathlib.Core.Path.{◌≡◌, refl, sym}
 use mathlib.Core.Bool.{Bool, true, false, not, ◌&&◌, ◌||◌, true≢false}
 use mathlib.Core.List.{List}
-use Prim.Native.Nat.{ℕ, ◌+◌, ◌%◌}
+use Prim.Native.Nat.{ℕ, ◌+◌, ◌-◌, ◌%◌}
 use native.Mathlib.Nat.{sub-zero}
-use native.Mathlib.Omega.{arith}
 use lib.Dec.{eqb, ltb, leb}
 use lib.ListN.{length, get_or}
 use borrow.Author.Tests.{ltb-true, ltb-false, lt-leb, le-leb}
-use Rattle.base.specs.Base.{pick, bit, bits, one}
+use Rattle.base.specs.Base.{pick, bit, bits}
 use Rattle.model.specs.Queue.{is_empty}
 use Rattle.model.specs.Control.{is_sleep, is_initialization, is_normal, epvf, boff, lbkm, silm}
 use Rattle.model.specs.Reception.{malformed}
@@ -22,12 +21,17 @@ use Rattle.model.specs.declared.Register.{Register}
 use Rattle.model.specs.declared.Register.TheVariants.{Mcr, Msr, Tsr, Rfr, Ier, Esr, Btr, Ti, Tdt, Tdl, Tdh, Ri, Rdt, Rdl, Rdh, Fmr, Fm1r, Fs1r, Ffa1r, Fa1r, R1, R2, Absent}
 use Rattle.model.specs.declared.Step as steps
 use Rattle.model.specs.declared.Step.TheVariants.{Reset, Read, Write, Idle, BitTimes, Activity, Start, Outcome, Receive, ReceiveError}
-use Rattle.account.specs.Places.{place_of}
-use Rattle.account.specs.Reasons.{of_step, of_offset, of_write, of_bus, of_start, of_reception, of_outcome, of_frame, of_error}
-use Rattle.account.specs.Faults.{kind_of}
+use Rattle.account.specs.Reasons.{reason_number, number_of, of_step, of_offset, of_write, of_bus, of_start, of_reception, of_outcome, of_frame, of_error}
+use Rattle.account.specs.Faults.{kind_of, refusal_of, fault_in}
+use Rattle.account.specs.declared.reasons.Reason.{Reason}
+use Rattle.account.specs.declared.reasons.Reason.TheVariants.{Misaligned, NoRegister, UnknownResult, IdentifierBit, ExtendedBits, LengthCode, ErrorCode, ErrorStep, OwnFrame, NotNormal, BusOff, NonePending, Silent, NoOwnFrame, Acknowledged, Loopback, FilterInitialization, ErrorActive}
 use Rattle.account.specs.Laws.{codes_of, reason_of, says, says_of_record, Placed, Reasoned, Faulty}
 use Rattle.model.specs.Script.{Reading}
+use Rattle.model.specs.Refusals.{code}
+use Rattle.model.specs.declared.Refusal.{Refusal}
 use Rattle.model.specs.declared.Refusal.TheVariants.{Short, UnknownTag, WrongLength}
+use Rattle.account.specs.declared.faults.Fault.{Fault}
+use Rattle.account.specs.declared.faults.Fault.TheVariants as fault
 
 -- ---- registers
 
@@ -82,8 +86,8 @@ unlocked false h = (refl, refl)
 
 of_offset_lem : (absent aligned : Bool)
     → eqb (pick absent 1 0) 0 ≡ false
-    → (get_or codes_of (pick aligned 1 0) 0 ≡ pick absent 1 0)
-    × (((eqb (pick aligned 1 0) 0 && not aligned) || (eqb (pick aligned 1 0) 1 && absent)) ≡ true)
+    → (get_or codes_of (reason_number (pick aligned NoRegister Misaligned)) 0 ≡ pick absent 1 0)
+    × (((eqb (reason_number (pick aligned NoRegister Misaligned)) 0 && not aligned) || (eqb (reason_number (pick aligned NoRegister Misaligned)) 1 && absent)) ≡ true)
 of_offset_lem true true h = (refl, refl)
 of_offset_lem true false h = (refl, refl)
 of_offset_lem false aligned h = absurd (true≢false h)
@@ -96,7 +100,7 @@ says_of_write g o c n =
 
 of_write_lem : (g : Register) (o : ℕ) (c : Core)
     → eqb (write_refusal g c) 0 ≡ false
-    → (get_or codes_of (of_write (place_of g).kind o) 0 ≡ write_refusal g c) × (says_of_write g o c (of_write (place_of g).kind o) ≡ true)
+    → (get_or codes_of (number_of (of_write g o)) 0 ≡ write_refusal g c) × (says_of_write g o c (number_of (of_write g o)) ≡ true)
 unfolding of_write of_offset write_refusal
 of_write_lem Mcr o c h = absurd (true≢false h)
 of_write_lem Msr o c h = absurd (true≢false h)
@@ -121,14 +125,14 @@ of_write_lem Fa1r o c h = absurd (true≢false h)
 of_write_lem (R1 b) o c h = locked (not c.filters.finit && bit b.0 c.filters.activation) h
 of_write_lem (R2 b) o c h = locked (not c.filters.finit && bit b.0 c.filters.activation) h
 of_write_lem Absent o c h =
-    let p : (get_or codes_of (pick (eqb (o % 4) 0) 1 0) 0 ≡ 1)
-    × (((eqb (pick (eqb (o % 4) 0) 1 0) 0 && not (eqb (o % 4) 0)) || (eqb (pick (eqb (o % 4) 0) 1 0) 1 && true)) ≡ true) =
+    let p : (get_or codes_of (reason_number (pick (eqb (o % 4) 0) NoRegister Misaligned)) 0 ≡ 1)
+    × (((eqb (reason_number (pick (eqb (o % 4) 0) NoRegister Misaligned)) 0 && not (eqb (o % 4) 0)) || (eqb (reason_number (pick (eqb (o % 4) 0) NoRegister Misaligned)) 1 && true)) ≡ true) =
     of_offset_lem true (eqb (o % 4) 0) refl
     in
     (p.0, or_left _ _ (or_left _ _ p.1))
 
-abbrev bus_reason : Bool → Bool → Bool → ℕ → ℕ
-bus_reason normal off free rest = pick (not normal) 18 (pick off 19 (pick (not free) 16 rest))
+abbrev bus_reason : Bool → Bool → Bool → Reason → Reason
+bus_reason normal off free rest = pick (not normal) NotNormal (pick off BusOff (pick (not free) OwnFrame rest))
 
 abbrev bus_says : Bool → Bool → Bool → ℕ → Bool
 bus_says normal off free n = (eqb n 18 && not normal) || (eqb n 19 && off) || (eqb n 16 && not free)
@@ -139,8 +143,8 @@ start_says normal off free empty silent loopback n =
 
 of_start_lem : (normal off free empty silent loopback : Bool)
     → eqb (pick (normal && not off && free && not empty && not (silent && not loopback)) 0 4) 0 ≡ false
-    → (get_or codes_of (bus_reason normal off free (pick empty 20 21)) 0 ≡ pick (normal && not off && free && not empty && not (silent && not loopback)) 0 4)
-    × (start_says normal off free empty silent loopback (bus_reason normal off free (pick empty 20 21)) ≡ true)
+    → (get_or codes_of (reason_number (bus_reason normal off free (pick empty NonePending Silent))) 0 ≡ pick (normal && not off && free && not empty && not (silent && not loopback)) 0 4)
+    × (start_says normal off free empty silent loopback (reason_number (bus_reason normal off free (pick empty NonePending Silent))) ≡ true)
 of_start_lem false off free empty silent loopback h = (refl, refl)
 of_start_lem true true free empty silent loopback h = (refl, refl)
 of_start_lem true false false empty silent loopback h = (refl, refl)
@@ -154,8 +158,8 @@ reception_says normal off free loopback finit n = bus_says normal off free n || 
 
 of_reception_lem : (normal off free loopback finit : Bool)
     → eqb (pick (normal && not off && free && not loopback && not finit) 0 4) 0 ≡ false
-    → (get_or codes_of (bus_reason normal off free (pick loopback 24 25)) 0 ≡ pick (normal && not off && free && not loopback && not finit) 0 4)
-    × (reception_says normal off free loopback finit (bus_reason normal off free (pick loopback 24 25)) ≡ true)
+    → (get_or codes_of (reason_number (bus_reason normal off free (pick loopback Loopback FilterInitialization))) 0 ≡ pick (normal && not off && free && not loopback && not finit) 0 4)
+    × (reception_says normal off free loopback finit (reason_number (bus_reason normal off free (pick loopback Loopback FilterInitialization))) ≡ true)
 of_reception_lem false off free loopback finit h = (refl, refl)
 of_reception_lem true true free loopback finit h = (refl, refl)
 of_reception_lem true false false loopback finit h = (refl, refl)
@@ -164,7 +168,8 @@ of_reception_lem true false true false true h = (refl, refl)
 of_reception_lem true false true false false h = absurd (true≢false h)
 
 abbrev outcome_reason : Bool → Bool → Bool → ℕ
-outcome_reason over free loopback = pick over 10 (pick (not (not free)) 22 (pick loopback 23 26))
+outcome_reason over free loopback =
+    reason_number (pick over UnknownResult (pick (not (not free)) NoOwnFrame (pick loopback Acknowledged ErrorActive)))
 
 -- three: the result is 3; eight: it is 8
 abbrev outcome_code : Bool → Bool → Bool → Bool → Bool → Bool → ℕ
@@ -198,30 +203,31 @@ frame_says low extended zero long n = (eqb n 11 && low) || (eqb n 12 && not exte
 abbrev wrong : Bool → Bool → Bool → Bool → Bool
 wrong low extended zero long = low || (not extended && not zero) || long
 
-abbrev frame_reason : Bool → Bool → Bool → Bool → ℕ → ℕ
-frame_reason low extended zero long n = pick (not (wrong low extended zero long)) n (pick low 11 (pick long 13 12))
+abbrev frame_reason : Bool → Bool → Bool → Bool → Reason → ℕ
+frame_reason low extended zero long n =
+    reason_number (pick (not (wrong low extended zero long)) n (pick low IdentifierBit (pick long LengthCode ExtendedBits)))
 
-of_frame_lem : (low extended zero long : Bool) (k n : ℕ) (b : ℕ → Bool)
-    → (eqb k 0 ≡ false → (get_or codes_of n 0 ≡ k) × (b n ≡ true))
+of_frame_lem : (low extended zero long : Bool) (k : ℕ) (n : Reason) (b : ℕ → Bool)
+    → (eqb k 0 ≡ false → (get_or codes_of (reason_number n) 0 ≡ k) × (b (reason_number n) ≡ true))
     → eqb (pick (wrong low extended zero long) 5 k) 0 ≡ false
     → (get_or codes_of (frame_reason low extended zero long n) 0 ≡ pick (wrong low extended zero long) 5 k)
     × (frame_says low extended zero long (frame_reason low extended zero long n) || b (frame_reason low extended zero long n) ≡ true)
 of_frame_lem true extended zero long k n b f h = (refl, refl)
 of_frame_lem false true zero true k n b f h = (refl, refl)
-of_frame_lem false true zero false k n b f h = ((f h).0, or_right (frame_says false true zero false n) (b n) (f h).1)
+of_frame_lem false true zero false k n b f h = ((f h).0, or_right (frame_says false true zero false (reason_number n)) (b (reason_number n)) (f h).1)
 of_frame_lem false false true true k n b f h = (refl, refl)
-of_frame_lem false false true false k n b f h = ((f h).0, or_right (frame_says false false true false n) (b n) (f h).1)
+of_frame_lem false false true false k n b f h = ((f h).0, or_right (frame_says false false true false (reason_number n)) (b (reason_number n)) (f h).1)
 of_frame_lem false false false true k n b f h = (refl, refl)
 of_frame_lem false false false false k n b f h = (refl, refl)
 
-abbrev error_reason : Bool → Bool → Bool → ℕ → ℕ
-error_reason above below stepped n = pick stepped (pick (above && below) n 14) 15
+abbrev error_reason : Bool → Bool → Bool → Reason → ℕ
+error_reason above below stepped n = reason_number (pick stepped (pick (above && below) n ErrorCode) ErrorStep)
 
 abbrev error_says : Bool → Bool → Bool → ℕ → Bool
 error_says above below stepped n = (eqb n 14 && not (above && below)) || (eqb n 15 && not stepped)
 
-of_error_lem : (above below stepped : Bool) (k n : ℕ) (b : ℕ → Bool)
-    → (eqb k 0 ≡ false → (get_or codes_of n 0 ≡ k) × (b n ≡ true))
+of_error_lem : (above below stepped : Bool) (k : ℕ) (n : Reason) (b : ℕ → Bool)
+    → (eqb k 0 ≡ false → (get_or codes_of (reason_number n) 0 ≡ k) × (b (reason_number n) ≡ true))
     → eqb (pick (above && below && stepped) k 5) 0 ≡ false
     → (get_or codes_of (error_reason above below stepped n) 0 ≡ pick (above && below && stepped) k 5)
     × (error_says above below stepped (error_reason above below stepped n) || b (error_reason above below stepped n) ≡ true)
@@ -230,7 +236,7 @@ of_error_lem false below false k n b f h = (refl, refl)
 of_error_lem true false true k n b f h = (refl, refl)
 of_error_lem true false false k n b f h = (refl, refl)
 of_error_lem true true false k n b f h = (refl, refl)
-of_error_lem true true true k n b f h = ((f h).0, or_right (error_says true true true n) (b n) (f h).1)
+of_error_lem true true true k n b f h = ((f h).0, or_right (error_says true true true (reason_number n)) (b (reason_number n)) (f h).1)
 
 fits : (c : Core) (e : steps.Step)
     → eqb (refusal c e) 0 ≡ false
@@ -248,13 +254,13 @@ fits c (Outcome r) h = of_outcome_lem (ltb 8 r) (is_free c) (eqb r 3) (eqb r 8) 
 fits c (Receive x) h =
     of_frame_lem (bit 0 x.identifier) (bit 2 x.identifier) (eqb (bits 3 18 x.identifier) 0) (ltb 15 x.length)
     (pick (may_receive c) 0 4)
-    (bus_reason (is_normal c.control.mode) (boff c.errors) (is_free c) (pick (lbkm c.control) 24 25))
+    (bus_reason (is_normal c.control.mode) (boff c.errors) (is_free c) (pick (lbkm c.control) Loopback FilterInitialization))
     (reception_says (is_normal c.control.mode) (boff c.errors) (is_free c) (lbkm c.control) c.filters.finit)
     (of_reception_lem (is_normal c.control.mode) (boff c.errors) (is_free c) (lbkm c.control) c.filters.finit) h
 fits c (ReceiveError k n) h =
     of_error_lem (leb 1 k) (leb k 6) (eqb n 1 || eqb n 8)
     (pick (may_receive c) 0 4)
-    (bus_reason (is_normal c.control.mode) (boff c.errors) (is_free c) (pick (lbkm c.control) 24 25))
+    (bus_reason (is_normal c.control.mode) (boff c.errors) (is_free c) (pick (lbkm c.control) Loopback FilterInitialization))
     (reception_says (is_normal c.control.mode) (boff c.errors) (is_free c) (lbkm c.control) c.filters.finit)
     (of_reception_lem (is_normal c.control.mode) (boff c.errors) (is_free c) (lbkm c.control) c.filters.finit) h
 
@@ -263,36 +269,40 @@ reasoned c e = record { coded = λ h. (fits c e h).0; holds = λ h. (fits c e h)
 
 -- ---- records that can't be read
 
-same_code : (j k : ℕ) → Err j ≡ Err k → j ≡ k
-same_code j k h = cc
+same_refusal : (j r : Refusal) → ◌≡◌ {A = Reading} (Err j) (Err r) → j ≡ r
+same_refusal j r h = cc
 
-no_end : (k : ℕ) → (Ok None) ≡ Err k → ⊥
-no_end k h = let z : ◌≡◌ {A = ℕ} 0 1 = cc in omega arith
+no_end : (r : Refusal) → ◌≡◌ {A = Reading} (Ok None) (Err r) → ⊥
+no_end r h = cc
 
-no_step_lem : (e : steps.Step) (q k : ℕ) → Ok (Some (e, q)) ≡ Err k → ⊥
-no_step_lem e q k h = let z : ◌≡◌ {A = ℕ} 0 1 = cc in omega arith
+no_step_lem : (e : steps.Step) (q : ℕ) (r : Refusal) → ◌≡◌ {A = Reading} (Ok (Some (e, q))) (Err r) → ⊥
+no_step_lem e q r h = cc
 
 abbrev read : Bool → Bool → Bool → Bool → Bool → steps.Step → ℕ → Reading
 read ended short tag same few e q =
     pick ended (Ok None)
     (pick short (Err Short) (pick (not tag) (Err UnknownTag) (pick (not same) (Err WrongLength) (pick few (Err Short) (Ok (Some (e, q)))))))
 
-abbrev kind_by : ℕ → Bool → ℕ
-kind_by k whole = pick (eqb k 8) 2 (pick (eqb k 7) 3 (one whole))
-
 abbrev record_says : Bool → Bool → Bool → Bool → Bool → ℕ → Bool
 record_says short whole tag same few n =
     (eqb n 0 && short) || (eqb n 1 && same && few) || (eqb n 2 && tag && not same) || (eqb n 3 && whole && not tag)
 
-of_record : (ended short tag same few : Bool) (e : steps.Step) (q k : ℕ)
-    → read ended short tag same few e q ≡ Err k
-    → record_says short (not short) tag same few (kind_by k (not short)) ≡ true
-of_record true short tag same few e q k h = absurd (no_end k h)
-of_record false true tag same few e q k h = rw (← same_code 6 k h)
-of_record false false false same few e q k h = rw (← same_code 7 k h)
-of_record false false true false few e q k h = rw (← same_code 8 k h)
-of_record false false true true true e q k h = rw (← same_code 6 k h)
-of_record false false true true false e q k h = absurd (no_step_lem e q k h)
+-- n bytes of a record with tag t, whose length says l where w are wanted
+module _ (n l t w : ℕ) where
+  abbrev fault_by : Refusal → Bool → Fault
+  fault_by r short =
+      pick (eqb (code r) 8) (fault.WrongLength l t w)
+      (pick (eqb (code r) 7) (fault.UnknownTag t) (pick short (fault.ShortHeader n) (fault.ShortBody (n - 3) w)))
+
+  of_record : (ended short tag same few : Bool) (e : steps.Step) (q : ℕ) (r : Refusal)
+      → read ended short tag same few e q ≡ Err r
+      → (record_says short (not short) tag same few (kind_of (fault_by r short)) ≡ true) × (refusal_of (fault_by r short) ≡ r)
+  of_record true short tag same few e q r h = absurd (no_end r h)
+  of_record false true tag same few e q r h = rw (← same_refusal Short r h) (refl, refl)
+  of_record false false false same few e q r h = rw (← same_refusal UnknownTag r h) (refl, refl)
+  of_record false false true false few e q r h = rw (← same_refusal WrongLength r h) (refl, refl)
+  of_record false false true true true e q r h = rw (← same_refusal Short r h) (refl, refl)
+  of_record false false true true false e q r h = absurd (no_step_lem e q r h)
 
 -- a header is whole where it is not short
 whole : (n : ℕ) → leb 3 n ≡ not (ltb n 3)
@@ -302,11 +312,15 @@ whole n = at (ltb n 3) refl
     at true e = lt-leb 3 n (ltb-true n 3 e)
     at false e = le-leb 3 n (ltb-false n 3 e)
 
-pub faulty : (s : List ℕ) (k : ℕ) → Faulty s k
-unfolding reading says_of_record kind_of
-faulty s k = record {
-  holds = λ h. rw (whole (length s))
-      (of_record (leb (length s) 0) (ltb (length s) 3) (is_tag (byte_at s 0)) (eqb (number16 s 1) (body_length (byte_at s 0)))
-      (ltb (length s) (3 + body_length (byte_at s 0)))
-      (decoded (byte_at s 0) (part s 3 (3 + body_length (byte_at s 0)))) (3 + body_length (byte_at s 0)) k (rw sub-zero at h));
-}
+read_so : (s : List ℕ) (r : Refusal) → reading s 0 ≡ Err r
+    → (says_of_record s (kind_of (fault_in r s)) ≡ true) × (refusal_of (fault_in r s) ≡ r)
+unfolding reading says_of_record fault_in
+read_so s r h =
+    rw (whole (length s))
+    (of_record (length s) (number16 s 1) (byte_at s 0) (body_length (byte_at s 0))
+    (leb (length s) 0) (ltb (length s) 3) (is_tag (byte_at s 0)) (eqb (number16 s 1) (body_length (byte_at s 0)))
+    (ltb (length s) (3 + body_length (byte_at s 0)))
+    (decoded (byte_at s 0) (part s 3 (3 + body_length (byte_at s 0)))) (3 + body_length (byte_at s 0)) r (rw sub-zero at h))
+
+pub faulty : (s : List ℕ) (r : Refusal) → Faulty s r
+faulty s r = record { holds = λ h. (read_so s r h).0; refused = λ h. (read_so s r h).1 }

@@ -1,3 +1,1 @@
-pub mod Differing
 pub mod Lawful
-pub mod Offsets

@@ -1,23 +1,29 @@
 -- What is wrong with a record that can't be read. Document 01: "Bench script", codes 6, 7 and 8 of "Refusal numbers".
-use Rattle.std.specs.Prelude.{List, ℕ, ◌-◌, eqb, ltb, leb, length}
-use Rattle.base.specs.Base.{pick, one}
+use Rattle.std.specs.Prelude.{List, ℕ, ◌-◌, eqb, ltb, length}
+use Rattle.base.specs.Base.{pick}
+use Rattle.model.specs.Refusals.{code}
 use Rattle.model.specs.Script.{body_length, number16, byte_at}
+use Rattle.model.specs.declared.Refusal.{Refusal}
+use Rattle.model.specs.declared.Refusal.TheVariants as refusal
 use Rattle.account.specs.declared.faults.Fault.{Fault}
+use Rattle.account.specs.declared.faults.Fault.TheVariants.{ShortHeader, ShortBody, WrongLength, UnknownTag}
 
--- 0 a short header, 1 a short body, 2 a wrong length, 3 an unknown tag
-unfoldable pub kind_of : ℕ → ℕ → ℕ
-kind_of code left = pick (eqb code 8) 2 (pick (eqb code 7) 3 (one (leb 3 left)))
+-- the numbers by which the laws speak of them
+abbrev pub kind_of : Fault → ℕ
+kind_of (ShortHeader n) = 0
+kind_of (ShortBody n wanted) = 1
+kind_of (WrongLength n tag wanted) = 2
+kind_of (UnknownTag tag) = 3
 
--- the bytes that there are: the length that the record says, or those of its header or body
-unfoldable pub count_of : ℕ → ℕ → ℕ → ℕ
-count_of code n left = pick (eqb code 8) n (pick (ltb left 3) left (left - 3))
+abbrev pub refusal_of : Fault → Refusal
+refusal_of (ShortHeader n) = refusal.Short
+refusal_of (ShortBody n wanted) = refusal.Short
+refusal_of (WrongLength n tag wanted) = refusal.WrongLength
+refusal_of (UnknownTag tag) = refusal.UnknownTag
 
--- s is the script from the record on
-unfoldable pub fault_in : ℕ → List ℕ → Fault
-fault_in code s = record {
-  code = code;
-  kind = kind_of code (length s);
-  count = count_of code (number16 s 1) (length s);
-  tag = byte_at s 0;
-  wanted = body_length (byte_at s 0);
-}
+-- s is the script from the record on, which is refused so
+unfoldable pub fault_in : Refusal → List ℕ → Fault
+fault_in r s =
+    pick (eqb (code r) 8) (WrongLength (number16 s 1) (byte_at s 0) (body_length (byte_at s 0)))
+    (pick (eqb (code r) 7) (UnknownTag (byte_at s 0))
+    (pick (ltb (length s) 3) (ShortHeader (length s)) (ShortBody (length s - 3) (body_length (byte_at s 0)))))

@@ -13,12 +13,13 @@ use Rattle.model.specs.Script.{reading, is_tag, body_length, number16, byte_at}
 use Rattle.account.specs.Accesses as accesses
 use Rattle.model.specs.declared.Core.{Core}
 use Rattle.model.specs.declared.Frame.{Frame}
+use Rattle.model.specs.declared.Refusal.{Refusal}
 use Rattle.model.specs.declared.Register.{Register}
 use Rattle.model.specs.declared.Step as steps
 use Rattle.model.specs.declared.Step.TheVariants.{Reset, Read, Write, Idle, BitTimes, Activity, Start, Outcome, Receive, ReceiveError}
 use Rattle.account.specs.Places.{place_of}
-use Rattle.account.specs.Reasons.{bus_of, of_step}
-use Rattle.account.specs.Faults.{kind_of}
+use Rattle.account.specs.Reasons.{bus_of, number_of, of_step}
+use Rattle.account.specs.Faults.{kind_of, refusal_of, fault_in}
 
 -- ---- registers
 
@@ -38,7 +39,7 @@ pub record Placed (g : Register) : Type 0 where
 -- ---- reasons
 
 abbrev pub reason_of : Core → steps.Step → ℕ
-reason_of c e = of_step (bus_of c) e (place_of (register_at (accesses.offset_of e))).kind
+reason_of c e = number_of (of_step (bus_of c) e (register_at (accesses.offset_of e)))
 
 -- the codes of the reasons 0 to 26
 abbrev pub codes_of : List ℕ
@@ -103,6 +104,7 @@ says_of_record s n =
     || (eqb n 2 && is_tag (byte_at s 0) && not (eqb (number16 s 1) (body_length (byte_at s 0))))
     || (eqb n 3 && leb 3 (length s) && not (is_tag (byte_at s 0)))
 
--- s is the script from the record on; what is said of a record that can't be read is so
-pub record Faulty (s : List ℕ) (k : ℕ) : Type 0 where
-  pub holds : reading s 0 ≡ Err k → says_of_record s (kind_of k (length s)) ≡ true
+-- s is the script from the record on, which is refused as r; what is said of a record that can't be read is so
+pub record Faulty (s : List ℕ) (r : Refusal) : Type 0 where
+  pub holds : reading s 0 ≡ Err r → says_of_record s (kind_of (fault_in r s)) ≡ true
+  pub refused : reading s 0 ≡ Err r → refusal_of (fault_in r s) ≡ r

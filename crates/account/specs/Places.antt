@@ -5,7 +5,11 @@ use Rattle.model.specs.Queue.{number}
 use Rattle.model.specs.Shown.{fifo_number}
 use Rattle.model.specs.declared.Register.{Register}
 use Rattle.model.specs.declared.Register.TheVariants.{Mcr, Msr, Tsr, Rfr, Ier, Esr, Btr, Ti, Tdt, Tdl, Tdh, Ri, Rdt, Rdl, Rdh, Fmr, Fm1r, Fs1r, Ffa1r, Fa1r, R1, R2, Absent}
-use Rattle.account.specs.declared.places.Place.{Place}
+
+-- the number of a register's name, and of its FIFO, mailbox or bank
+pub record Place : Type 0 where
+  pub kind : ℕ
+  pub index : ℕ
 
 abbrev pub place : ℕ → ℕ → Place
 place k i = record { kind = k; index = i }

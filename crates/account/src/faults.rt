@@ -3,63 +3,54 @@ ghost use Rattle.std.specs.Prelude.{◌≡◌};
 ghost use Rattle.account.specs.Faults as faults;
 ghost use Rattle.model.specs.Script as scripts;
 
-// The code; what it is: a short header, a short body, a wrong length, an unknown tag; how many bytes there are, the tag,
-// how many bytes there should be.
-#[derive(Clone, Copy)]
-pub struct Fault {
-    pub code: u8,
-    pub kind: u32,
-    pub count: u64,
-    pub tag: u8,
-    pub wanted: u64,
+use model::Refusal;
+
+// How many bytes of the header or of the body there are; the length that the record says; how many bytes the body of its tag has.
+#[derive(Clone, Copy, Debug, PartialEq, Eq)]
+pub enum Fault {
+    ShortHeader { bytes: u64 },
+    ShortBody { bytes: u64, wanted: u64 },
+    WrongLength { length: u64, tag: u8, wanted: u64 },
+    UnknownTag { tag: u8 },
+}
+
+impl Fault {
+    pub fn refusal(self) -> Refusal
+        ensures { result ≡ faults.refusal_of self }
+    {
+        match self {
+            Self::ShortHeader { .. } | Self::ShortBody { .. } => Refusal::Short,
+            Self::WrongLength { .. } => Refusal::WrongLength,
+            Self::UnknownTag { .. } => Refusal::UnknownTag,
+        }
+    }
 }
 
 fn byte_at(rest: &[u8], i: usize) -> u8
     ensures { result ≡ scripts.byte_at rest.now i }
 {
-    if i < rest.len() {
-        return rest[i];
-    }
-    0
+    rest.get(i).copied().unwrap_or(0)
 }
 
-fn kind(code: u8, left: u64) -> u32
-    ensures { result ≡ faults.kind_of code left }
-{
-    if code == 8 {
-        return 2;
-    }
-    if code == 7 {
-        return 3;
-    }
-    bits::one(3 <= left)
-}
-
-fn count(code: u8, length: u64, left: u64) -> u64
-    ensures { result ≡ faults.count_of code length left }
-{
-    if code == 8 {
-        return length;
-    }
-    if left < 3 {
-        return left;
-    }
-    left - 3
-}
-
-pub fn fault_in(code: u8, rest: &[u8]) -> Fault
-    ensures { result ≡ faults.fault_in code rest.now }
+// `rest` is the script from the record on, which is refused so.
+#[tactic(auto, unfolding(crate::specs::Faults::fault_in))]
+pub fn fault_in(refusal: Refusal, rest: &[u8]) -> Fault
+    ensures { result ≡ faults.fault_in refusal rest.now }
 {
     let tag = byte_at(rest, 0);
-    let low = byte_at(rest, 1) as u64;
-    let high = byte_at(rest, 2) as u64;
-    let length = low + high * 256;
+    let wanted = records::body_length(tag) as u64;
     let left = rest.len() as u64;
-    Fault {
-        code: code,
-        kind: kind(code, left),
-        count: count(code, length, left),
-        tag: tag,
-        wanted: records::body_length(tag) as u64,
+    match refusal {
+        Refusal::WrongLength => Fault::WrongLength {
+            length: u64::from(byte_at(rest, 1)) + u64::from(byte_at(rest, 2)) * 256,
+            tag,
+            wanted,
+        },
+        Refusal::UnknownTag => Fault::UnknownTag { tag },
+        _ if left < 3 => Fault::ShortHeader { bytes: left },
+        _ => Fault::ShortBody {
+            bytes: left - 3,
+            wanted,
+        },
     }
 }

@@ -1,132 +1,153 @@
-// What there is to say of a step, in numbers: its register, why it is refused, which filter took its frame, and the state
-// before and after it. The words are another crate's.
+// What there is to say of a step: its register, why it is refused, which filter took its frame, and the state before and
+// after it. The words are another crate's.
 #![tactic(auto)]
 
 ghost use Rattle.std.specs.Prelude.{◌≡◌};
+ghost use Rattle.model.specs.Registers as registers;
+ghost use Rattle.account.specs.Accesses as accesses;
 ghost use Rattle.account.specs.Accounts as accounts;
 ghost use Rattle.account.specs.Views as views;
 
-use model::{Controller, Core, Fifo, FilterNumber, Filters, Mailbox, Queue, Step, Stepped};
-use places::Place;
+use model::{
+    Controller, Core, Fifo, FilterNumber, Filters, Mailbox, Mode, Queue, Register, Step, Stepped,
+};
+use reasons::{Bus, Reason};
 
 pub mod faults; // what is wrong with a record that can't be read
-pub mod places; // the register of an access
 pub mod reasons; // why a step is refused
 
 // ---- the state
 
-// 0 empty, 1 pending, 2 on the wire.
-fn mailbox_state(q: Queue, m: Mailbox) -> u32
-    ensures { result ≡ views.mailbox_state q m }
-{
-    let o = q.order;
-    let s = q.transmitting;
-    if queue::is_from(s, m) {
-        return 2;
-    }
-    bits::one(queue::holds(o, m))
+#[derive(Clone, Copy, Debug, PartialEq, Eq)]
+pub enum Occupancy {
+    Empty,
+    Pending,
+    OnWire,
 }
 
-// What is looked at: the states of the mailboxes, RF0R and RF1R, TEC, REC, the error flags of ESR, the count of idles
-// towards recovery from bus-off, the mode and the flags of MSR, the timer.
-pub fn view_of(c: Core) -> [u32; 12]
+// One of the things that are looked at, with what it shows: RF0R or RF1R, TEC, REC, the error flags of ESR, the count of idles
+// towards recovery from bus-off, the mode, the flags of MSR, the timer.
+#[derive(Clone, Copy, Debug, PartialEq, Eq)]
+pub enum Aspect {
+    Mailbox(Mailbox, Occupancy),
+    Fifo(Fifo, u32),
+    Tec(u16),
+    Rec(u8),
+    Errors(u32),
+    Recovery(u8),
+    Mode(Mode),
+    Flags(u32),
+    Timer(u16),
+}
+
+#[tactic(auto, unfolding(crate::specs::Views::occupancy_of))]
+fn occupancy_of(q: Queue, m: Mailbox) -> Occupancy
+    ensures { result ≡ views.occupancy_of q m }
+{
+    if q.transmitting == Some(m) {
+        Occupancy::OnWire
+    } else if queue::holds(q.order, m) {
+        Occupancy::Pending
+    } else {
+        Occupancy::Empty
+    }
+}
+
+fn mailbox(q: Queue, m: Mailbox) -> Aspect
+    ensures { result ≡ views.mailbox q m }
+{
+    Aspect::Mailbox(m, occupancy_of(q, m))
+}
+
+// All that is looked at.
+#[tactic(auto, unfolding(crate::specs::Views::view_of, model::specs::Registers::read_word))]
+pub fn view_of(c: Core) -> [Aspect; 12]
     ensures { result ≡ views.view_of c }
 {
-    let k = c.control;
     let q = c.transmit.queue;
-    let s = q.transmitting;
-    let msr = control::msr_word(k, queue::is_nobody(s));
+    let msr = control::msr_word(c.control, q.transmitting.is_none());
     [
-        mailbox_state(q, Mailbox::M0),
-        mailbox_state(q, Mailbox::M1),
-        mailbox_state(q, Mailbox::M2),
-        receive::rfr_word(c.fifo0),
-        receive::rfr_word(c.fifo1),
-        c.errors.tec as u32,
-        c.errors.rec as u32,
-        control::esr_word(c.errors) % 8,
-        k.recovery as u32,
-        msr % 4,
-        msr / 4 % 8,
-        k.timer as u32,
+        mailbox(q, Mailbox::M0),
+        mailbox(q, Mailbox::M1),
+        mailbox(q, Mailbox::M2),
+        Aspect::Fifo(Fifo::F0, receive::rfr_word(c.fifo0)),
+        Aspect::Fifo(Fifo::F1, receive::rfr_word(c.fifo1)),
+        Aspect::Tec(c.errors.tec),
+        Aspect::Rec(c.errors.rec),
+        Aspect::Errors(control::esr_word(c.errors) % 8),
+        Aspect::Recovery(c.control.recovery),
+        Aspect::Mode(c.control.mode),
+        Aspect::Flags(msr / 4 % 8),
+        Aspect::Timer(c.control.timer),
     ]
 }
 
-// Which of the things that are looked at a step changed.
-pub fn changes(old: [u32; 12], new: [u32; 12]) -> [bool; 12]
+fn change(old: Aspect, new: Aspect) -> Option<Aspect>
+    ensures { views.Change old new result }
+{
+    (old != new).then_some(new)
+}
+
+// What is seen after a step where it is another than before.
+pub fn changes(old: [Aspect; 12], new: [Aspect; 12]) -> [Option<Aspect>; 12]
     ensures { views.Changes old new result }
 {
-    let mut r = [false; 12];
-    for i in 0..12 {
-        r[i] = old[i] != new[i];
+    let mut changed = [None; 12];
+    for (i, seen) in changed.iter_mut().enumerate() {
+        *seen = change(old[i], new[i]);
     }
-    r
-}
-
-// ---- the filter
-
-// Where a frame went: nothing to say, to no FIFO, to FIFO 0 or to FIFO 1 by a filter.
-#[derive(Clone, Copy)]
-pub struct Taken {
-    pub by: u32,
-    pub filter: u32,
-}
-
-fn taken_as(a: Option<(Fifo, FilterNumber)>) -> Taken
-    ensures { result ≡ views.taken_as a }
-{
-    match a {
-        Some((f, n)) => match f {
-            Fifo::F0 => Taken {
-                by: 2,
-                filter: n.0 as u32,
-            },
-            Fifo::F1 => Taken {
-                by: 3,
-                filter: n.0 as u32,
-            },
-        },
-        None => Taken { by: 1, filter: 0 },
-    }
-}
-
-fn taken_by(g: Filters, banks: &[u32; 28], e: Step) -> Taken
-    ensures { result ≡ views.taken_by g banks.now e }
-{
-    match e {
-        Step::Receive(x) => taken_as(filter::acceptance(g, banks, x.identifier)),
-        _ => Taken { by: 0, filter: 0 },
-    }
+    changed
 }
 
 // ---- the account
 
+// `taken`: of a frame, which filter of which FIFO took it, if any did.
 #[derive(Clone, Copy)]
 pub struct Account {
-    pub place: Place,
+    pub register: Register,
     pub code: u8,
     pub lines: u8,
     pub word: u32,
-    pub reason: u32,
-    pub taken: Taken,
-    pub old: [u32; 12],
-    pub new: [u32; 12],
+    pub reason: Option<Reason>,
+    pub taken: Option<Option<(Fifo, FilterNumber)>>,
+    pub old: [Aspect; 12],
+    pub new: [Aspect; 12],
+}
+
+// The register of a step; one that is no access has none.
+#[tactic(auto, unfolding(model::specs::Registers::register_at, model::specs::Registers::control_register))]
+fn register_of(e: Step) -> Register
+    ensures { result ≡ registers.register_at (accesses.offset_of e) }
+{
+    match e {
+        Step::Read(o) | Step::Write(o, _) => registers::register_at(o),
+        _ => Register::Absent,
+    }
+}
+
+#[tactic(auto, unfolding(crate::specs::Views::taken_by))]
+fn taken_by(g: Filters, banks: &[u32; 28], e: Step) -> Option<Option<(Fifo, FilterNumber)>>
+    ensures { result ≡ views.taken_by g banks.now e }
+{
+    match e {
+        Step::Receive(x) => Some(filter::acceptance(g, banks, x.identifier)),
+        _ => None,
+    }
 }
 
 // Of the step e from z, which gave a.
+#[tactic(auto, unfolding(crate::specs::Accounts::account_of))]
 pub fn account_of(z: Controller, e: Step, a: Stepped) -> Account
     ensures { result ≡ accounts.account_of z e a }
 {
-    let banks = z.banks;
-    let place = places::of_step(e);
-    let bus = reasons::bus_of(z.core);
+    let register = register_of(e);
     Account {
-        place: place,
+        register,
         code: a.code,
         lines: a.lines,
         word: a.word,
-        reason: reasons::of_step(bus, e, place),
-        taken: taken_by(z.core.filters, &banks, e),
+        reason: Bus::of_core(z.core).against_step(e, register),
+        taken: taken_by(z.core.filters, &z.banks, e),
         old: view_of(z.core),
         new: view_of(a.controller.core),
     }

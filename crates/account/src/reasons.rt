@@ -1,52 +1,73 @@
-// Why a step is refused, by the number of the reason in the table of words. The code is the controller's; this is the
-// reason behind it, and says nothing of a step that is accepted.
+// Why a step is refused. The code is the controller's; this is the reason behind it, and says nothing of a step that is
+// accepted.
 ghost use Rattle.std.specs.Prelude.{◌≡◌};
 ghost use Rattle.account.specs.Reasons as reasons;
 
-use super::places::Place;
-use model::{Core, Frame, Step};
+use model::{Bank, Core, Frame, Mailbox, Mode, Register, Step};
 
-const MISALIGNED: u32 = 0;
+#[derive(Clone, Copy)]
+pub enum Reason {
+    Misaligned,
+    NoRegister,
+    ReceiveMailbox,
+    BtrLocked,
+    MailboxNotEmpty(Mailbox),
+    Fm1rLocked,
+    Fs1rLocked,
+    Ffa1rLocked,
+    BankActive(Bank),
+    NoBitTimes,
+    UnknownResult,
+    IdentifierBit,
+    ExtendedBits,
+    LengthCode,
+    ErrorCode,
+    ErrorStep,
+    OwnFrame,
+    NotAsleep,
+    NotNormal,
+    BusOff,
+    NonePending,
+    Silent,
+    NoOwnFrame,
+    Acknowledged,
+    Loopback,
+    FilterInitialization,
+    ErrorActive,
+}
 
-const NO_REGISTER: u32 = 1;
+#[tactic(auto, unfolding(crate::specs::Reasons::of_offset))]
+fn of_offset(o: u16) -> Reason
+    ensures { result ≡ reasons.of_offset o }
+{
+    if o % 4 == 0 {
+        Reason::NoRegister
+    } else {
+        Reason::Misaligned
+    }
+}
 
-const NO_BIT_TIMES: u32 = 9;
-
-const RESULT: u32 = 10;
-
-const IDENTIFIER_BIT: u32 = 11;
-
-const EXTENDED_BITS: u32 = 12;
-
-const LENGTH_CODE: u32 = 13;
-
-const ERROR_CODE: u32 = 14;
-
-const ERROR_STEP: u32 = 15;
-
-const OWN_FRAME: u32 = 16;
-
-const NOT_ASLEEP: u32 = 17;
-
-const NOT_NORMAL: u32 = 18;
-
-const BUS_OFF: u32 = 19;
-
-const NONE_PENDING: u32 = 20;
-
-const SILENT: u32 = 21;
-
-const NO_OWN_FRAME: u32 = 22;
-
-const ACKNOWLEDGED: u32 = 23;
-
-const LOOPBACK: u32 = 24;
-
-const FILTER_INITIALIZATION: u32 = 25;
-
-const ERROR_ACTIVE: u32 = 26;
-
-const NOTHING: u32 = 27;
+// What keeps each register from being written.
+#[tactic(auto, unfolding(crate::specs::Reasons::of_write))]
+fn of_write(register: Register, o: u16) -> Option<Reason>
+    ensures { result ≡ reasons.of_write register o }
+{
+    match register {
+        Register::Btr => Some(Reason::BtrLocked),
+        Register::Ti(m) | Register::Tdt(m) | Register::Tdl(m) | Register::Tdh(m) => {
+            Some(Reason::MailboxNotEmpty(m))
+        }
+        Register::Ri(_) | Register::Rdt(_) | Register::Rdl(_) | Register::Rdh(_) => {
+            Some(Reason::ReceiveMailbox)
+        }
+        Register::Fm1r => Some(Reason::Fm1rLocked),
+        Register::Fs1r => Some(Reason::Fs1rLocked),
+        Register::Ffa1r => Some(Reason::Ffa1rLocked),
+        Register::R1(b) | Register::R2(b) => Some(Reason::BankActive(b)),
+        Register::Absent => Some(of_offset(o)),
+        _ => None,
+    }
+}
 
 // What can keep an event off the bus: not in Normal mode, bus-off, an own frame on the wire, no request, loopback.
 #[derive(Clone, Copy)]
@@ -58,112 +79,115 @@ pub struct Bus {
     pub loopback: bool,
 }
 
-pub fn bus_of(c: Core) -> Bus
-    ensures { result ≡ reasons.bus_of c }
-{
-    let k = c.control;
-    let q = c.transmit.queue;
-    let m = k.mode;
-    let o = q.order;
-    let s = q.transmitting;
-    Bus {
-        normal: control::is_normal(m),
-        off: control::boff(c.errors),
-        own: !queue::is_nobody(s),
-        empty: queue::is_empty(o),
-        loopback: control::lbkm(k),
-    }
-}
-
-// By the number of the register's name: what keeps each register from being written.
-fn of_write(kind: u32, o: u16) -> u32
-    ensures { result ≡ reasons.of_write kind o }
-{
-    if kind == 18 {
-        return bits::pick(o % 4 == 0, NO_REGISTER, MISALIGNED);
-    }
-    let keeps = [
-        27, 27, 27, 27, 27, 27, 3, 4, 4, 4, 4, 2, 2, 2, 2, 27, 8, 8, 27, 5, 6, 7, 27,
-    ];
-    let i = kind as usize;
-    if 23 <= i {
-        return NOTHING;
-    }
-    keeps[i]
-}
-
-// What keeps every frame off the bus; `rest` is the reason where that is not it.
-fn of_bus(b: Bus, rest: u32) -> u32
-    ensures { result ≡ reasons.of_bus b rest }
-{
-    if !b.normal {
-        return NOT_NORMAL;
-    }
-    if b.off {
-        return BUS_OFF;
-    }
-    bits::pick(b.own, OWN_FRAME, rest)
-}
-
-fn of_reception(b: Bus) -> u32
-    ensures { result ≡ reasons.of_reception b }
-{
-    of_bus(
-        b,
-        bits::pick(b.loopback, LOOPBACK, FILTER_INITIALIZATION),
-    )
-}
-
-fn of_outcome(b: Bus, r: u8) -> u32
-    ensures { result ≡ reasons.of_outcome b r }
-{
-    if 8 < r {
-        return RESULT;
-    }
-    if !b.own {
-        return NO_OWN_FRAME;
-    }
-    bits::pick(b.loopback, ACKNOWLEDGED, ERROR_ACTIVE)
-}
-
-fn of_frame(b: Bus, x: Frame) -> u32
-    ensures { result ≡ reasons.of_frame b x }
-{
-    if !receive::malformed(x) {
-        return of_reception(b);
-    }
-    if bits::bit(0, x.identifier) {
-        return IDENTIFIER_BIT;
-    }
-    bits::pick(15 < x.length, LENGTH_CODE, EXTENDED_BITS)
-}
-
-fn of_error(b: Bus, k: u8, n: u8) -> u32
-    ensures { result ≡ reasons.of_error b k n }
-{
-    if (n == 1) | (n == 8) {
-        if (1 <= k) & (k <= 6) {
-            return of_reception(b);
+impl Bus {
+    pub fn of_core(c: Core) -> Self
+        ensures { result ≡ reasons.bus_of c }
+    {
+        let q = c.transmit.queue;
+        Self {
+            normal: c.control.mode == Mode::Normal,
+            off: control::boff(c.errors),
+            own: q.transmitting.is_some(),
+            empty: queue::is_empty(q.order),
+            loopback: control::lbkm(c.control),
         }
-        return ERROR_CODE;
     }
-    ERROR_STEP
-}
 
-// g is the register that the step reads or writes.
-pub fn of_step(b: Bus, e: Step, g: Place) -> u32
-    ensures { result ≡ reasons.of_step b e g.kind }
-{
-    match e {
-        Step::Reset => NOTHING,
-        Step::Read(o) => bits::pick(o % 4 == 0, NO_REGISTER, MISALIGNED),
-        Step::Write(o, _) => of_write(g.kind, o),
-        Step::Idle => OWN_FRAME,
-        Step::BitTimes(_) => NO_BIT_TIMES,
-        Step::Activity => NOT_ASLEEP,
-        Step::Start => of_bus(b, bits::pick(b.empty, NONE_PENDING, SILENT)),
-        Step::Outcome(r) => of_outcome(b, r),
-        Step::Receive(x) => of_frame(b, x),
-        Step::ReceiveError(k, n) => of_error(b, k, n),
+    // What keeps every frame off the bus; `rest` is the reason where that is not it.
+    #[tactic(auto, unfolding(crate::specs::Reasons::of_bus))]
+    fn against_any(self, rest: Reason) -> Reason
+        ensures { result ≡ reasons.of_bus self rest }
+    {
+        if !self.normal {
+            Reason::NotNormal
+        } else if self.off {
+            Reason::BusOff
+        } else if self.own {
+            Reason::OwnFrame
+        } else {
+            rest
+        }
+    }
+
+    #[tactic(auto, unfolding(crate::specs::Reasons::of_start))]
+    fn against_start(self) -> Reason
+        ensures { result ≡ reasons.of_start self }
+    {
+        self.against_any(if self.empty {
+            Reason::NonePending
+        } else {
+            Reason::Silent
+        })
+    }
+
+    #[tactic(auto, unfolding(crate::specs::Reasons::of_reception))]
+    fn against_reception(self) -> Reason
+        ensures { result ≡ reasons.of_reception self }
+    {
+        self.against_any(if self.loopback {
+            Reason::Loopback
+        } else {
+            Reason::FilterInitialization
+        })
+    }
+
+    #[tactic(auto, unfolding(crate::specs::Reasons::of_outcome))]
+    fn against_outcome(self, r: u8) -> Reason
+        ensures { result ≡ reasons.of_outcome self r }
+    {
+        if 8 < r {
+            Reason::UnknownResult
+        } else if !self.own {
+            Reason::NoOwnFrame
+        } else if self.loopback {
+            Reason::Acknowledged
+        } else {
+            Reason::ErrorActive
+        }
+    }
+
+    #[tactic(auto, unfolding(crate::specs::Reasons::of_frame))]
+    fn against_frame(self, x: Frame) -> Reason
+        ensures { result ≡ reasons.of_frame self x }
+    {
+        if !receive::malformed(x) {
+            self.against_reception()
+        } else if bits::bit(0, x.identifier) {
+            Reason::IdentifierBit
+        } else if 15 < x.length {
+            Reason::LengthCode
+        } else {
+            Reason::ExtendedBits
+        }
+    }
+
+    #[tactic(auto, unfolding(crate::specs::Reasons::of_error))]
+    fn against_error(self, code: u8, by: u8) -> Reason
+        ensures { result ≡ reasons.of_error self code by }
+    {
+        match (code, by) {
+            (1..=6, 1 | 8) => self.against_reception(),
+            (_, 1 | 8) => Reason::ErrorCode,
+            _ => Reason::ErrorStep,
+        }
+    }
+
+    // Why a step is refused, if it is; `register` is the one that it reads or writes.
+    #[tactic(auto, unfolding(crate::specs::Reasons::of_step))]
+    pub fn against_step(self, e: Step, register: Register) -> Option<Reason>
+        ensures { result ≡ reasons.of_step self e register }
+    {
+        match e {
+            Step::Reset => None,
+            Step::Read(o) => Some(of_offset(o)),
+            Step::Write(o, _) => of_write(register, o),
+            Step::Idle => Some(Reason::OwnFrame),
+            Step::BitTimes(_) => Some(Reason::NoBitTimes),
+            Step::Activity => Some(Reason::NotAsleep),
+            Step::Start => Some(self.against_start()),
+            Step::Outcome(r) => Some(self.against_outcome(r)),
+            Step::Receive(x) => Some(self.against_frame(x)),
+            Step::ReceiveError(code, by) => Some(self.against_error(code, by)),
+        }
     }
 }

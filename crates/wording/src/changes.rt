@@ -1,52 +1,109 @@
 // What a step changed: the filter that took its frame, and each thing that is looked at where it is another than before.
-use account::Taken;
+use account::{Aspect, Occupancy};
+use model::{Fifo, FilterNumber, Mode};
 use text::Line;
 
 const CHANGED_COLUMN: usize = 123;
 
-// The part of the table that speaks of thing i with the value w: of a mailbox by its state, of a FIFO by FULL and FOVR, of EWGF,
-// EPVF and BOFF, the mode and the flags by their bits.
-fn part(i: usize, w: u32) -> u32 {
-    match i {
-        0 => w % 4,
-        1 => 3 + w % 4,
-        2 => 6 + w % 4,
-        3 => 9 + w / 8 % 4,
-        4 => 13 + w / 8 % 4,
-        5 => 17,
-        6 => 18,
-        7 => 19 + w % 8,
-        8 => 27,
-        9 => 28 + w % 4,
-        10 => 31 + w % 8,
-        _ => 39,
-    }
-}
-
-// Thing i with its new value; a comma in front of all but the first.
-fn item(l: Line, comma: u32, i: usize, w: u32) -> Line {
-    l.said(b"|, |, |, ", comma, 0).said(
-        b"mailbox 0 empty|mailbox 0 pending|mailbox 0 on the wire|mailbox 1 empty|mailbox 1 pending|mailbox 1 on the wire|mailbox 2 empty|mailbox 2 pending|mailbox 2 on the wire|FIFO0 %/3|FIFO0 %/3 FULL|FIFO0 %/3 OVR|FIFO0 %/3 FULL OVR|FIFO1 %/3|FIFO1 %/3 FULL|FIFO1 %/3 OVR|FIFO1 %/3 FULL OVR|TEC %|REC %|error active|error warning||error passive||||bus-off|recovery %/128|mode Normal|mode Initialization|mode Sleep|flags none|flags ERRI|flags WKUI|flags ERRI WKUI|flags SLAKI|flags ERRI SLAKI|flags WKUI SLAKI|flags ERRI WKUI SLAKI|timer %",
-        part(i, w),
-        bits::pick((i == 3) | (i == 4), w % 4, w) as u64,
-    )
-}
-
-pub(crate) fn told(l: Line, t: Taken, changed: [bool; 12], new: [u32; 12]) -> Line {
-    let mut comma = t.by;
-    let mut m = l.column(CHANGED_COLUMN).said(
-        b"|no filter takes it|filter % of FIFO0|filter % of FIFO1",
-        t.by,
-        t.filter as u64,
-    );
-    for i in 0..12 {
-        if changed[i] {
-            m = item(m, comma, i, new[i]);
-            comma = 1;
+fn with_filter(l: Line, taken: Option<(Fifo, FilterNumber)>) -> Line {
+    match taken {
+        Some((fifo, number)) => {
+            let a = l.put(b"filter ").decimal(u64::from(number.0));
+            a.put(b" of FIFO").decimal(fifo as u64)
         }
+        None => l.put(b"no filter takes it"),
     }
-    if comma == 0 {
-        return l;
+}
+
+// Of RF0R or RF1R: how many frames there are, FULL and FOVR.
+fn with_fifo(l: Line, fifo: Fifo, word: u32) -> Line {
+    let a = l.put(b"FIFO").decimal(fifo as u64).byte(b' ');
+    let mut line = a.decimal(u64::from(word % 4)).put(b"/3");
+    if bits::bit(3, word) {
+        line = line.put(b" FULL");
     }
-    m
+    if bits::bit(4, word) {
+        line = line.put(b" OVR");
+    }
+    line
+}
+
+// EWGF, EPVF and BOFF.
+fn errors(flags: u32) -> &'static [u8] {
+    match flags {
+        0 => b"error active",
+        1 => b"error warning",
+        3 => b"error passive",
+        7 => b"bus-off",
+        _ => b"",
+    }
+}
+
+// ERRI, WKUI and SLAKI.
+fn with_flags(l: Line, flags: u32) -> Line {
+    let mut line = l.put(b"flags");
+    if flags == 0 {
+        line = line.put(b" none");
+    }
+    if bits::bit(0, flags) {
+        line = line.put(b" ERRI");
+    }
+    if bits::bit(1, flags) {
+        line = line.put(b" WKUI");
+    }
+    if bits::bit(2, flags) {
+        line = line.put(b" SLAKI");
+    }
+    line
+}
+
+fn occupancy(o: Occupancy) -> &'static [u8] {
+    match o {
+        Occupancy::Empty => b" empty",
+        Occupancy::Pending => b" pending",
+        Occupancy::OnWire => b" on the wire",
+    }
+}
+
+fn mode(m: Mode) -> &'static [u8] {
+    match m {
+        Mode::Normal => b"mode Normal",
+        Mode::Initialization => b"mode Initialization",
+        Mode::Sleep => b"mode Sleep",
+    }
+}
+
+fn with_aspect(l: Line, aspect: Aspect) -> Line {
+    match aspect {
+        Aspect::Mailbox(m, o) => l.put(b"mailbox ").decimal(m as u64).put(occupancy(o)),
+        Aspect::Fifo(fifo, word) => with_fifo(l, fifo, word),
+        Aspect::Tec(n) => l.put(b"TEC ").decimal(u64::from(n)),
+        Aspect::Rec(n) => l.put(b"REC ").decimal(u64::from(n)),
+        Aspect::Errors(flags) => l.put(errors(flags)),
+        Aspect::Recovery(n) => l.put(b"recovery ").decimal(u64::from(n)).put(b"/128"),
+        Aspect::Mode(m) => l.put(mode(m)),
+        Aspect::Flags(flags) => with_flags(l, flags),
+        Aspect::Timer(n) => l.put(b"timer ").decimal(u64::from(n)),
+    }
+}
+
+// A comma in front of all but the first.
+pub(crate) fn told(
+    l: Line,
+    taken: Option<Option<(Fifo, FilterNumber)>>,
+    changes: [Option<Aspect>; 12],
+) -> Line {
+    let mut line = l.column(CHANGED_COLUMN);
+    if let Some(filter) = taken {
+        line = with_filter(line, filter);
+    }
+    let mut begun = taken.is_some();
+    for aspect in changes.iter().flatten() {
+        if begun {
+            line = line.put(b", ");
+        }
+        line = with_aspect(line, *aspect);
+        begun = true;
+    }
+    if begun { line } else { l }
 }

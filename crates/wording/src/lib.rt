@@ -5,6 +5,7 @@ ghost use Rattle.text.specs.Lines as lines;
 
 use account::Account;
 use account::faults::Fault;
+use account::reasons::Reason;
 use model::Step;
 use text::Line;
 
@@ -28,17 +29,66 @@ pub fn head() -> Line
 
 // ---- the answer
 
-// The code and the reason, with the number of its mailbox or bank.
 #[tactic(auto, using(text::proofs::Extending::extends_trans))]
-pub fn refused(l: Line, code: u8, reason: u32, index: u32) -> Line
+fn with_reason(l: Line, reason: Reason) -> Line
     ensures { lines.Extends l result }
 {
-    let a = l.said(b"refused %: ", 0, code as u64);
-    a.said(
-        b"offset isn't a multiple of 4|no register has this offset|a receive mailbox is read only|BTR needs Initialization mode|mailbox % isn't empty|FM1R needs FINIT=1|FS1R needs FINIT=1|FFA1R needs FINIT=1|bank % is active, FINIT=0|bit times are 1 to 65535|the result is over 8|bit 0 of the identifier word|standard with extended bits|length code over 15|error code isn't 1 to 6|REC goes up by 1 or 8|own frame on the wire|not in Sleep mode|not in Normal mode|bus-off|no request is pending|silent mode (SILM=1)|no frame on the wire|loopback needs no acknowledgment|loopback mode (LBKM=1)|filters not in use (FINIT=1)|not error passive (EPVF=0)|",
-        reason,
-        index as u64,
-    )
+    let text: &[u8] = match reason {
+        Reason::Misaligned => b"offset isn't a multiple of 4",
+        Reason::NoRegister => b"no register has this offset",
+        Reason::ReceiveMailbox => b"a receive mailbox is read only",
+        Reason::BtrLocked => b"BTR needs Initialization mode",
+        Reason::MailboxNotEmpty(m) => return mailbox(l, m as u64).put(b" isn't empty"),
+        Reason::Fm1rLocked => b"FM1R needs FINIT=1",
+        Reason::Fs1rLocked => b"FS1R needs FINIT=1",
+        Reason::Ffa1rLocked => b"FFA1R needs FINIT=1",
+        Reason::BankActive(b) => return l.put(b"bank ").decimal(u64::from(b.0)).put(b" is active, FINIT=0"),
+        Reason::NoBitTimes => b"bit times are 1 to 65535",
+        Reason::UnknownResult => b"the result is over 8",
+        Reason::IdentifierBit => b"bit 0 of the identifier word",
+        Reason::ExtendedBits => b"standard with extended bits",
+        Reason::LengthCode => b"length code over 15",
+        Reason::ErrorCode => b"error code isn't 1 to 6",
+        Reason::ErrorStep => b"REC goes up by 1 or 8",
+        Reason::OwnFrame => b"own frame on the wire",
+        Reason::NotAsleep => b"not in Sleep mode",
+        Reason::NotNormal => b"not in Normal mode",
+        Reason::BusOff => b"bus-off",
+        Reason::NonePending => b"no request is pending",
+        Reason::Silent => b"silent mode (SILM=1)",
+        Reason::NoOwnFrame => b"no frame on the wire",
+        Reason::Acknowledged => b"loopback needs no acknowledgment",
+        Reason::Loopback => b"loopback mode (LBKM=1)",
+        Reason::FilterInitialization => b"filters not in use (FINIT=1)",
+        Reason::ErrorActive => b"not error passive (EPVF=0)",
+    };
+    l.put(text)
+}
+
+#[tactic(auto, using(text::proofs::Extending::extends_trans))]
+fn mailbox(l: Line, m: u64) -> Line
+    ensures { lines.Extends l result }
+{
+    l.put(b"mailbox ").decimal(m)
+}
+
+#[tactic(auto, using(text::proofs::Extending::extends_trans))]
+fn refused_by(l: Line, code: u8) -> Line
+    ensures { lines.Extends l result }
+{
+    l.put(b"refused ").decimal(u64::from(code)).put(b": ")
+}
+
+// The code and the reason.
+#[tactic(auto, using(text::proofs::Extending::extends_trans))]
+pub fn refused(l: Line, code: u8, reason: Option<Reason>) -> Line
+    ensures { lines.Extends l result }
+{
+    let a = refused_by(l, code);
+    match reason {
+        Some(r) => with_reason(a, r),
+        None => a,
+    }
 }
 
 // The interrupt lines that are up, each with a blank in front, or else what is said of none.
@@ -55,16 +105,28 @@ fn lines(l: Line, up: u8) -> Line {
     lines_up(l.column(LINES_COLUMN - 1), up, b" -")
 }
 
+// How an own frame ended.
+fn outcome(result: u8) -> &'static [u8] {
+    match result {
+        0 => b"-",
+        1 => b"stuff error",
+        2 => b"form error",
+        3 => b"no acknowledgment",
+        4 => b"recessive bit error",
+        5 => b"dominant bit error",
+        6 => b"CRC error",
+        7 => b"arbitration lost",
+        8 => b"no acknowledgment, error passive",
+        _ => b"",
+    }
+}
+
 // The word of a read, the mailbox of a start, what went wrong with an own frame, or nothing to say.
 fn done(l: Line, e: Step, word: u32) -> Line {
     match e {
-        Step::Read(o) => phrases::fields(l.hex(word, 8), o as u32, word),
-        Step::Start => l.said(b"mailbox %", 0, word as u64),
-        Step::Outcome(result) => l.said(
-            b"-|stuff error|form error|no acknowledgment|recessive bit error|dominant bit error|CRC error|arbitration lost|no acknowledgment, error passive",
-            result as u32,
-            0,
-        ),
+        Step::Read(o) => phrases::fields(l.hex(word, 8), u32::from(o), word),
+        Step::Start => mailbox(l, u64::from(word)),
+        Step::Outcome(result) => l.put(outcome(result)),
         _ => l.byte(b'-'),
     }
 }
@@ -78,16 +140,18 @@ pub fn line(n: u64, e: Step, a: Account) -> Line
     let b = Line::empty().right(n, NUMBER_WIDTH).put(b"  ");
     let c = phrases::step(b, e, true).column(ANSWER_COLUMN);
     if a.code != 0 {
-        let g = a.place;
-        let d = refused(c, a.code, a.reason, g.index);
-        return lines(d, a.lines).byte(b'\n');
+        return lines(refused(c, a.code, a.reason), a.lines).byte(b'\n');
     }
     let d = lines(done(c, e, a.word), a.lines);
-    let t = a.taken;
-    let new = a.new;
-    let old = a.old;
-    let changed = account::changes(old, new);
-    changes::told(d, t, changed, new).byte(b'\n')
+    changes::told(d, a.taken, account::changes(a.old, a.new)).byte(b'\n')
+}
+
+// A tag that no record has, or whose record has another length.
+#[tactic(auto, using(text::proofs::Extending::extends_trans))]
+fn with_tag(l: Line, tag: u8) -> Line
+    ensures { lines.Extends l result }
+{
+    l.put(b"tag ").hex(u32::from(tag), 2)
 }
 
 // What is wrong with a record that can't be read.
@@ -95,17 +159,23 @@ pub fn line(n: u64, e: Step, a: Account) -> Line
 pub fn fault(l: Line, f: Fault) -> Line
     ensures { lines.Extends l result }
 {
-    let a = l.said(b"refused %: ", 0, f.code as u64);
-    let b = a.said(
-        b"short header, % bytes of 3|short body, % bytes of |length %, tag |unknown tag ",
-        f.kind,
-        f.count,
-    );
-    if f.kind < 2 {
-        return b.said(b"|%", f.kind, f.wanted);
+    let a = refused_by(l, f.refusal().into());
+    match f {
+        Fault::ShortHeader { bytes } => a.put(b"short header, ").decimal(bytes).put(b" bytes of 3"),
+        Fault::ShortBody { bytes, wanted } => {
+            let b = a.put(b"short body, ").decimal(bytes);
+            b.put(b" bytes of ").decimal(wanted)
+        }
+        Fault::WrongLength {
+            length,
+            tag,
+            wanted,
+        } => {
+            let b = a.put(b"length ").decimal(length).put(b", ");
+            with_tag(b, tag).put(b" takes ").decimal(wanted)
+        }
+        Fault::UnknownTag { tag } => with_tag(a.put(b"unknown "), tag),
     }
-    let c = b.hex(f.tag as u32, 2);
-    c.said(b"|| takes %|", f.kind, f.wanted)
 }
 
 // A record that can't be read, at a byte of the script, with the interrupt lines that are up.
@@ -113,17 +183,16 @@ pub fn unread_line(n: u64, place: u64, f: Fault, up: u8) -> Line
     ensures { lines.EndsLine result }
 {
     let a = Line::empty().right(n, NUMBER_WIDTH);
-    let b = a.said(b"  can't be read, at byte %", 0, place);
-    let c = fault(b.column(ANSWER_COLUMN), f);
-    lines(c, up).byte(b'\n')
+    let b = a.put(b"  can't be read, at byte ").decimal(place);
+    lines(fault(b.column(ANSWER_COLUMN), f), up).byte(b'\n')
 }
 
 // The same for standard error, by the program that says it.
 pub fn complaint(program: &[u8], n: u64, place: u64, f: Fault) -> Line
     ensures { lines.EndsLine result }
 {
-    let a = Line::empty().put(program).said(b": record %", 0, n);
-    let b = a.said(b" at byte %: ", 0, place);
+    let a = Line::empty().put(program).put(b": record ").decimal(n);
+    let b = a.put(b" at byte ").decimal(place).put(b": ");
     fault(b, f).byte(b'\n')
 }
 
@@ -147,34 +216,42 @@ pub fn unopened_line(up: u8) -> Line
 pub fn unopened_complaint(program: &[u8], row: &[u8]) -> Line
     ensures { lines.EndsLine result }
 {
-    let n = bits::least(row.len(), 3);
-    let a = Line::empty().put(program).put(
-        b": the lesson doesn't open with 01 00 00, the record of a reset: ",
-    );
-    let mut b = a.said(
-        b"it is empty|it ends after|it ends after|it begins with",
-        n as u32,
-        0,
-    );
-    for i in 0..n {
-        b = b.byte(b' ').digits(row[i] as u32, 2);
+    let what: &[u8] = match row.len() {
+        0 => b"it is empty",
+        1 | 2 => b"it ends after",
+        _ => b"it begins with",
+    };
+    let a = Line::empty().put(program);
+    let b = a.put(b": the lesson doesn't open with 01 00 00, the record of a reset: ");
+    let mut line = b.put(what);
+    for byte in &row[..row.len().min(3)] {
+        line = line.byte(b' ').digits(u32::from(*byte), 2);
     }
-    b.byte(b'\n')
+    line.byte(b'\n')
 }
 
 // ---- the end
 
+// Why a trace stops: a record or an opening that is refused, the end of the script, standard input.
+#[derive(Clone, Copy, Debug, PartialEq, Eq)]
+pub enum Stop {
+    Refused,
+    Ended,
+    InputFailed,
+}
+
 // The last line: why and where the trace stopped, how many records there were and how many of them were refused.
 #[tactic(auto, using(text::proofs::Extending::extends_trans))]
-pub fn last(l: Line, why: u32, place: u64, records: u64, refused: u64) -> Line
+pub fn last(l: Line, why: Stop, place: u64, records: u64, refused: u64) -> Line
     ensures ends_line { lines.EndsLine result }
     ensures extends { lines.Extends l result }
 {
-    let a = l.said(
-        b"stopped at byte %: |end of the script at byte %: |standard input can't be read on, stopped at byte %: ",
-        why,
-        place,
-    );
-    let b = a.said(b"% records, ", 0, records);
-    b.said(b"% refused", 0, refused).byte(b'\n')
+    let text: &[u8] = match why {
+        Stop::Refused => b"stopped at byte ",
+        Stop::Ended => b"end of the script at byte ",
+        Stop::InputFailed => b"standard input can't be read on, stopped at byte ",
+    };
+    let a = l.put(text).decimal(place).put(b": ");
+    let b = a.decimal(records).put(b" records, ");
+    b.decimal(refused).put(b" refused").byte(b'\n')
 }

@@ -1,8 +1,9 @@
-use mathlib.Core.Path.{◌≡◌}
-use Prim.Native.Nat.{◌≤◌}
-use lib.ListN.{length}
-use Rattle.account.proofs.Differing.{UpTo}
+use Rattle.std.proofs.Common.{◌≡◌, ℕ, ◌<◌, None, length, get_or}
+use Rattle.account.specs.Views.{Change, seen_at}
 use Rattle.account.proofs.changes.Given as goal
 
 abbrev pub invariant-loop-i : goal.invariant-loop-i
-invariant-loop-i l = (l.i ≤ 12) × (length l.r ≡ 12) × UpTo l.old l.new l.r l.i
+invariant-loop-i l = record {
+  whole : length l.seen-items ≡ 12;
+  each : (k : ℕ) → k < l.i → Change (seen_at l.old k) (seen_at l.new k) (get_or l.seen-items k None);
+}
