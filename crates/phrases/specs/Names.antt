@@ -1,5 +1,5 @@
 -- Registers and the fields of a word as text, by the table of names.
-use Rattle.std.specs.Prelude.{Bool, not, ◌&&◌, ◌||◌, List, [], ◌∷◌, ◌++◌, ℕ, zero, suc, ◌+◌, ◌-◌, ◌*◌, ◌^◌, eqb, leb, get_or}
+use Rattle.std.specs.Prelude.{Bool, not, ◌&&◌, ◌||◌, List, [], ◌∷◌, ◌++◌, ℕ, zero, suc, ◌+◌, ◌-◌, ◌*◌, ◌^◌, eqb, leb, get_or, Option, Some, None}
 use Rattle.base.specs.Base.{pick, bit, bits}
 use Rattle.names.specs.Listing.{text}
 use Rattle.names.specs.Rows.{none, numbers}
@@ -52,8 +52,9 @@ field_value f w = pick (is_other (numbers f.row).shown w) 0 (bits (place f) (num
 abbrev pub placed : Found → ℕ → ℕ
 placed f w = field_value f w * 2 ^ place f
 
-unfoldable pub field_of : Found → ℕ → Field
-field_of f w = record { value = field_value f w; placed = placed f w }
+-- what is shown of a field, which is nothing where its number is 0
+unfoldable pub field_of : Found → ℕ → Option Field
+field_of f w = pick (eqb (field_value f w) 0) None (Some (record { value = field_value f w; placed = placed f w }))
 
 -- a field of one bit has no number behind its name
 unfoldable pub amount_text : ℕ → ℕ → ℕ → List ℕ

@@ -11,28 +11,30 @@ use text::Line;
 
 // ---- bytes
 
+#[tactic(auto, using(crate::proofs::Putting::behind), unfolding(crate::specs::Frames::pair_text, text::specs::Lines::put_all))]
 fn pair(l: Line, b: u8, blank: bool) -> Line
     ensures { result ≡ lines.put_all l (framing.pair_text blank b) }
 {
+    let b = u32::from(b);
     if blank {
-        return l.put(b" ").digits(b as u32, 2);
+        l.byte(b' ').digits(b, 2)
+    } else {
+        l.digits(b, 2)
     }
-    l.digits(b as u32, 2)
 }
 
 // Two hex digits for each byte, with a blank in front or not.
 fn pairs(l: Line, s: &[u8], blank: bool) -> Line
     ensures { result ≡ lines.put_all l (framing.pairs_text blank s.now) }
 {
-    let mut m = l;
-    let mut i: usize = 0;
-    while i < s.len() {
-        m = pair(m, s[i], blank);
-        i += 1;
+    let mut line = l;
+    for b in s {
+        line = pair(line, *b, blank);
     }
-    m
+    line
 }
 
+#[tactic(auto, using(crate::proofs::Putting::behind), unfolding(crate::specs::Frames::bytes_text))]
 pub(crate) fn bytes(l: Line, s: &[u8]) -> Line
     ensures { result ≡ lines.put_all l (framing.bytes_text s.now) }
 {
@@ -43,46 +45,54 @@ fn record(x: Frame) -> [u8; 16]
     ensures { result ≡ records.record_of (step.Receive x) }
 {
     let mut space = [0u8; 16];
-    let e = WideStep::Receive(WideFrame {
-        identifier: x.identifier,
-        low: x.low,
-        high: x.high,
-        length: x.length as u32,
-    });
-    let done = writer::write_record(e, &mut space);
+    let Frame {
+        identifier,
+        low,
+        high,
+        length,
+    } = x;
+    let frame = WideFrame {
+        identifier,
+        low,
+        high,
+        length: u32::from(length),
+    };
+    let _ = writer::write_record(WideStep::Receive(frame), &mut space);
     space
 }
 
 // ---- the worded form
 
 // Whether the worded form says all of a frame: no bit of the identifier word and no data beyond it.
+#[tactic(auto, unfolding(crate::specs::Frames::is_worded, model::specs::Reception::stored_frame))]
 fn is_worded(x: Frame) -> bool
     ensures { result ≡ framing.is_worded x }
 {
     let kept = receive::stored_frame(x, FilterNumber(0), 0);
-    !receive::malformed(x) & (kept.rdl == x.low) & (kept.rdh == x.high)
+    !receive::malformed(x) && kept.rdl == x.low && kept.rdh == x.high
 }
 
+#[tactic(auto, unfolding(crate::specs::Frames::identifier_text))]
 fn identifier(l: Line, w: u32) -> Line
     ensures { result ≡ lines.put_all l (framing.identifier_text w) }
 {
     if bits::bit(2, w) {
-        return l.digits(w / 8, 8);
+        l.digits(w / 8, 8)
+    } else {
+        l.digits(w / 0x200000, 3)
     }
-    l.digits(w / 0x200000, 3)
 }
 
+#[tactic(auto, using(crate::proofs::Putting::behind), unfolding(crate::specs::Frames::remote_text, text::specs::Lines::put_all))]
 fn remote(l: Line, length: u8) -> Line
     ensures { result ≡ lines.put_all l (framing.remote_text length) }
 {
-    let a = l.put(b"R");
-    if length == 0 {
-        return a;
+    let a = l.byte(b'R');
+    match length {
+        0 => a,
+        1..=7 => a.digits(u32::from(length), 1),
+        _ => a.byte(b'8'),
     }
-    if length < 8 {
-        return a.digits(length as u32, 1);
-    }
-    a.put(b"8")
 }
 
 fn data(l: Line, x: Frame) -> Line
@@ -93,23 +103,27 @@ fn data(l: Line, x: Frame) -> Line
     pairs(l, &s[8..end], false)
 }
 
+#[tactic(auto, unfolding(crate::specs::Frames::payload_text))]
 fn payload(l: Line, x: Frame) -> Line
     ensures { result ≡ lines.put_all l (framing.payload_text x) }
 {
     if bits::bit(1, x.identifier) {
-        return remote(l, x.length);
+        remote(l, x.length)
+    } else {
+        data(l, x)
     }
-    data(l, x)
 }
 
 // A length code above 8.
+#[tactic(auto, using(crate::proofs::Putting::behind), unfolding(crate::specs::Frames::code_text, text::specs::Lines::put_all))]
 fn code(l: Line, length: u8) -> Line
     ensures { result ≡ lines.put_all l (framing.code_text length) }
 {
     if length <= 8 {
-        return l;
+        l
+    } else {
+        l.byte(b'_').digits(u32::from(length), 1)
     }
-    l.put(b"_").digits(length as u32, 1)
 }
 
 fn worded(l: Line, x: Frame) -> Line
@@ -127,11 +141,12 @@ fn remark(l: Line, x: Frame) -> Line
     ensures { result ≡ lines.put_all l (framing.remark_text x) }
 {
     let a = l.put(b" # frame, identifier word ").hex(x.identifier, 8);
-    let b = a.put(b", length code ").decimal(x.length as u64);
+    let b = a.put(b", length code ").decimal(u64::from(x.length));
     let s = record(x);
     pairs(b.put(b", data"), &s[8..16], true)
 }
 
+#[tactic(auto, using(crate::proofs::Putting::behind), unfolding(crate::specs::Frames::unworded_text))]
 fn unworded(l: Line, x: Frame) -> Line
     ensures { result ≡ lines.put_all l (framing.unworded_text x) }
 {
@@ -139,11 +154,13 @@ fn unworded(l: Line, x: Frame) -> Line
     remark(bytes(l, &s), x)
 }
 
+#[tactic(auto, unfolding(crate::specs::Frames::frame_text))]
 pub(crate) fn frame(l: Line, x: Frame) -> Line
     ensures { result ≡ lines.put_all l (framing.frame_text x) }
 {
     if is_worded(x) {
-        return worded(l, x);
+        worded(l, x)
+    } else {
+        unworded(l, x)
     }
-    unworded(l, x)
 }

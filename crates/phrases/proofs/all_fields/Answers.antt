@@ -6,12 +6,12 @@ use Rattle.phrases.proofs.all_fields.Goals as goal
 
 pub loop-k-preserved : goal.loop-k-preserved
 loop-k-preserved c =
-    let x = c.rows_of-x.result in
-    fields_on_lem c.loop-k.t _ _ x.first c.loop-k.k x.count _ c.loop-k-test.true c.with_row-t.ensures c.loop-k.invariant
+    let x = c.rows_of-rows.result in
+    fields_on_lem c.loop-k.said _ _ x.first c.loop-k.k x.count _ c.loop-k-test.true c.with_row-said.ensures c.loop-k.invariant
 
 pub returns : goal.returns
 unfolding said_of fields_of
 returns c =
-    let x = c.rows_of-x.result in
-    let e = rw c.register_at-f.ensures at c.rows_of-x.ensures in
-    fields-ended c.loop-k.t _ _ x.first c.loop-k.k x.count c.loop-k-test.false c.loop-k.invariant ∙ (ap (λ (y : Span). with_fields (record { line = c.args.l; rest = c.args.w }) (fields_of y) c.args.w) e ∙ all_said _ _ _)
+    let x = c.rows_of-rows.result in
+    let e = rw c.register_at-f.ensures at c.rows_of-rows.ensures in
+    fields-ended c.loop-k.said _ _ x.first c.loop-k.k x.count c.loop-k-test.false c.loop-k.invariant ∙ (ap (λ (y : Span). with_fields (record { line = c.args.l; rest = c.args.w }) (fields_of y) c.args.w) e ∙ all_said _ _ _)

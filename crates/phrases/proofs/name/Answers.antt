@@ -1,28 +1,24 @@
-use mathlib.Core.Path.{◌∙◌, ap}
-use mathlib.Core.List.{List}
-use Prim.Native.Nat.{ℕ}
-use borrow.Author.Tests.{eq-eqb, ne_eqb}
+use Rattle.std.proofs.Common.{◌≡◌, arith, ◌∙◌, get_or, take}
 use Rattle.text.specs.Lines.{put_all}
-use Rattle.phrases.specs.Names.{letter_text, name_on, name_text}
-use Rattle.phrases.proofs.Putting.{name_on_lem, name-blank, name-ended}
+use Rattle.phrases.specs.Names.{letter_text, name_text}
+use Rattle.phrases.proofs.Putting.{letter_is, name_on_lem, name-blank, name-ended, whole-name}
 use Rattle.phrases.proofs.name.Goals as goal
+use Rattle.phrases.proofs.name.Goals.{in-37, in_default}
 
-pub returns-then-c-le32 : goal.returns-then-c-le32
+pub returns-in-0-to-32 : goal.returns-in-0-to-32
 unfolding name_text
-returns-then-c-le32 c =
-    name-blank c.loop-k.m _ _ _ c.loop-k.k c.loop-k-test.true c.if-c-le32.true c.loop-k.invariant ∙ ap (λ (x : List ℕ). put_all c.args.l (name_on x c.args.index 0 8)) c.text-t.ensures
+returns-in-0-to-32 c =
+    name-blank c.loop-c.line _ _ _ c.loop-c.c-index (grind arith) (omega arith) c.loop-c.invariant ∙ whole-name _ _ _ _ c.text-text.ensures
 
-pub loop-k-preserved-then-c-eq37 : goal.loop-k-preserved-then-c-eq37
+pub loop-c-preserved : goal.loop-c-preserved
 unfolding letter_text put_all
-loop-k-preserved-then-c-eq37 c =
-    name_on_lem c.loop-k.m _ _ _ c.loop-k.k _ c.loop-k-test.true c.if-c-le32.false (rw (eq-eqb _ _ c.if-c-eq37.true) c.decimal-m.ensures.value) c.loop-k.invariant
-
-pub loop-k-preserved : goal.loop-k-preserved
-unfolding letter_text put_all
-loop-k-preserved c =
-    name_on_lem c.loop-k.m _ _ _ c.loop-k.k _ c.loop-k-test.true c.if-c-le32.false (rw (ne_eqb _ _ c.if-c-eq37.false) c.byte-m.ensures.value) c.loop-k.invariant
+loop-c-preserved c =
+    elim c.match-c.branch [
+      | in-37 w ↦ name_on_lem c.loop-c.line _ _ _ c.loop-c.c-index _ (grind arith) (omega arith) (rw w.in-37.is (w.line-is ∙ rw w.from.ensures at w.decimal-line.ensures.value)) c.loop-c.invariant
+      | in_default w ↦ name_on_lem c.loop-c.line _ _ _ c.loop-c.c-index _ (grind arith) (omega arith) (rw (letter_is _ _ (λ (e : get_or (take 8 c.text-text.result) c.loop-c.c-index 0 ≡ 37). absurd (omega arith))) (w.line-is ∙ w.byte-line.ensures.value)) c.loop-c.invariant
+    ]
 
 pub returns : goal.returns
 unfolding name_text
 returns c =
-    name-ended c.loop-k.m _ _ _ c.loop-k.k c.loop-k-test.false c.loop-k.invariant ∙ ap (λ (x : List ℕ). put_all c.args.l (name_on x c.args.index 0 8)) c.text-t.ensures
+    name-ended c.loop-c.line _ _ _ c.loop-c.c-index (grind arith) c.loop-c.invariant ∙ whole-name _ _ _ _ c.text-text.ensures

@@ -11,4 +11,4 @@ returns c =
     behind _ _ _ (bytes " # frame, identifier word ") _ c.put.ensures.value
     (behind _ _ _ _ _ c.hex-a.ensures.value
     (behind _ _ _ (bytes ", length code ") _ c.put-2.ensures.value
-    (behind _ _ _ _ _ c.decimal-b.ensures.value (behind _ _ _ (bytes ", data") _ c.put-3.ensures.value (c.pairs.ensures ∙ rw c.record-s.ensures)))))
+    (behind _ _ _ _ _ (rw c.from.ensures at c.decimal-b.ensures.value) (behind _ _ _ (bytes ", data") _ c.put-3.ensures.value (c.pairs.ensures ∙ rw c.record-s.ensures)))))
