@@ -2,7 +2,7 @@
 use mathlib.Core.Bool.{Bool, true, false}
 use mathlib.Core.Path.{◌≡◌, refl, sym, ap, ◌∙◌}
 use Prim.Native.Nat.{ℕ, ◌*◌, ◌/◌, ◌%◌, ◌^◌, ◌<◌, ◌≤◌}
-use native.Mathlib.Nat.{one-mul, zero-mul, zero-mod, div-eq_of_lt, mod-eq_of_lt, mod-le, lt_of_lt_of_le, lt_of_le_of_lt, le_trans, mul-le-mul_right}
+use native.Mathlib.Nat.{one-mul, zero-mod, div-eq_of_lt, mod-eq_of_lt, mod-le, lt_of_lt_of_le, lt_of_le_of_lt, le_trans, mul-le-mul_right}
 use native.Mathlib.Omega.{arith}
 use lib.Dec.{eqb}
 use lib.Pow.{pow_mono, pow-lt, split}

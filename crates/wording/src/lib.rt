@@ -42,7 +42,10 @@ fn with_reason(l: Line, reason: Reason) -> Line
         Reason::Fm1rLocked => b"FM1R needs FINIT=1",
         Reason::Fs1rLocked => b"FS1R needs FINIT=1",
         Reason::Ffa1rLocked => b"FFA1R needs FINIT=1",
-        Reason::BankActive(b) => return l.put(b"bank ").decimal(u64::from(b.0)).put(b" is active, FINIT=0"),
+        Reason::BankActive(b) => return l
+            .put(b"bank ")
+            .decimal(u64::from(b.0))
+            .put(b" is active, FINIT=0"),
         Reason::NoBitTimes => b"bit times are 1 to 65535",
         Reason::UnknownResult => b"the result is over 8",
         Reason::IdentifierBit => b"bit 0 of the identifier word",
@@ -106,8 +109,8 @@ fn lines(l: Line, up: u8) -> Line {
 }
 
 // How an own frame ended.
-fn outcome(result: u8) -> &'static [u8] {
-    match result {
+fn outcome(number: u8) -> &'static [u8] {
+    match number {
         0 => b"-",
         1 => b"stuff error",
         2 => b"form error",

@@ -1,6 +1,5 @@
 use mathlib.Core.Path.{◌≡◌}
-use Prim.Native.Nat.{◌-◌}
-use lib.ListN.{length, drop}
+use lib.ListN.{drop}
 use Rattle.text.specs.Lines.{put_all}
 use Rattle.phrases.specs.Frames.{pairs_text}
 use Rattle.phrases.proofs.frames.pairs.Given as goal
