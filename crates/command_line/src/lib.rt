@@ -6,59 +6,44 @@ ghost use Rattle.command_line.specs.Arguments.{IsWithin, asked_for};
 
 use std::env::{Env, FillError};
 
-// No argument; one, which is so many bytes at the front of a space; or anything else: more than one, or one that is longer than the
-// space.
-#[derive(Clone, Copy)]
-pub enum Given {
-    Nothing,
-    One(usize),
-    Other,
+// Why a program is not started with these arguments: there is more than one, the only one is longer than the space, or it is not
+// the word that the program knows.
+#[derive(Clone, Copy, Debug, PartialEq, Eq)]
+pub enum ArgumentsError {
+    TooMany,
+    TooLong,
+    Unknown,
 }
 
-// No argument, the one word that the program knows, or anything else.
-#[derive(Clone, Copy)]
-pub enum Asked {
-    Nothing,
-    Word,
-    Other,
-}
-
-// Whether there is a second argument.
 fn has_second(rt: &impl Env) -> bool {
-    let mut text = [0u8; 1];
-    match rt.arg(2, &mut text) {
-        Ok(_) => true,
-        Err(FillError::TooLong) => true,
-        Err(FillError::NotPresent) => false,
-    }
+    !matches!(rt.arg(2, &mut [0u8; 1]), Err(FillError::NotPresent))
 }
 
-pub fn arguments(rt: &impl Env, space: &mut [u8]) -> Given
+// The only argument, if there is one: so many bytes at the front of the space.
+pub fn argument(rt: &impl Env, space: &mut [u8]) -> Result<Option<usize>, ArgumentsError>
     ensures { IsWithin result space.new }
 {
     if has_second(rt) {
-        return Given::Other;
+        return Err(ArgumentsError::TooMany);
     }
     match rt.arg(1, space) {
-        Ok(n) => Given::One(n),
-        Err(FillError::NotPresent) => Given::Nothing,
-        Err(FillError::TooLong) => Given::Other,
+        Ok(n) => Ok(Some(n)),
+        Err(FillError::NotPresent) => Ok(None),
+        Err(FillError::TooLong) => Err(ArgumentsError::TooLong),
     }
 }
 
-pub fn asked_for(g: Given, space: &[u8], word: &[u8]) -> Asked
-    ensures { result ≡ asked_for g space.now word.now }
+// Whether the only argument is the word.
+pub fn asked_for(
+    given: Result<Option<usize>, ArgumentsError>,
+    space: &[u8],
+    word: &[u8],
+) -> Result<bool, ArgumentsError>
+    ensures { result ≡ asked_for given space.now word.now }
 {
-    match g {
-        Given::Nothing => Asked::Nothing,
-        Given::One(n) => {
-            let k = n.min(space.len());
-            if &space[..k] == word {
-                Asked::Word
-            } else {
-                Asked::Other
-            }
-        }
-        Given::Other => Asked::Other,
+    match given? {
+        None => Ok(false),
+        Some(n) if &space[..n.min(space.len())] == word => Ok(true),
+        Some(_) => Err(ArgumentsError::Unknown),
     }
 }
