@@ -27,6 +27,10 @@ pub record EndsLine (r : Line) : Type 0 where
   pub before : Line
   pub newline : r ≡ added before 10
 
+-- the bytes of a line; it has room for 512
+abbrev pub text_of : Line → List ℕ
+text_of l = take (min l.at 512) l.bytes
+
 -- how many bytes of a line of this length a row of n bytes takes; a line has room for 512
 abbrev pub fitting : ℕ → ℕ → ℕ
 fitting length n = min (min length 512) n

@@ -68,6 +68,13 @@ impl Line {
         line.spaces(to.saturating_sub(line.at))
     }
 
+    // The text.
+    pub fn as_bytes(&self) -> &[u8]
+        ensures { result.now ≡ lines.text_of self.now }
+    {
+        &self.bytes[..self.at.min(ROOM)]
+    }
+
     // Copies the text to the start of a row and says how long it is.
     pub fn copied(self, row: &mut [u8]) -> usize
         ensures { lines.Copied self row.old result row.new }
