@@ -1,109 +1,117 @@
-// A script of any length, read a piece at a time.
+// Input of any length, read a piece at a time, and bytes that wait to go out.
 #![tactic(auto)]
 
-ghost use Rattle.std.specs.Prelude.{◌≡◌, false, length};
-ghost use Rattle.io.specs.Counts.{IsPrefixLen};
-ghost use Rattle.stream.specs.Space as spaces;
+ghost use Rattle.std.specs.Prelude.{◌≡◌, [], OnOk};
+ghost use Rattle.std.specs.Io.KnownBytes.{Appends};
 
-use std::io::Read;
+use arrayvec::ArrayVec;
+use std::io;
+use std::io::{Read, Write};
+use std::marker::Model;
 
-// Moves the bytes from one place up to another to the front and says how many they are.
-pub fn to_front(space: &mut [u8], from: usize, to: usize) -> usize
-    ensures value { result ≡ spaces.between from to (length space.old) }
-    ensures space_after { space.new ≡ spaces.moved from result space.old }
-{
-    let n = space.len();
-    let end = bits::least(to, n);
-    if end <= from {
-        return 0;
+// ---- input
+
+// Whether more of an input can come: it is open, it has ended, or reading it failed.
+#[derive(Clone, Copy, Debug, PartialEq, Eq)]
+pub enum Source {
+    Open,
+    Ended,
+    Failed,
+}
+
+// The bytes of an input that are read and not used yet, at most N. They lie from `place` up to `filled`.
+#[derive(Drop)]
+pub struct Input<const N: usize> {
+    bytes: [u8; N],
+    place: usize,
+    filled: usize,
+    source: Source,
+}
+
+impl<const N: usize> Model for Input<N> {
+    ghost use Rattle.std.specs.Prelude.{◌≤◌};
+    ghost use Rattle.stream.specs.Unread.{Unread, between};
+
+    ghost Value = { Unread };
+
+    ghost view = { λ i. record { bytes = between i.place i.filled i.bytes; source = i.source } };
+
+    ghost invariant = { λ i. (i.place ≤ i.filled) × (i.filled ≤ N) };
+}
+
+impl<const N: usize> Input<N> {
+    ghost use Rattle.stream.specs.Unread.{nothing_read, wants, passed, ReadOn};
+
+    pub fn new() -> Self
+        ensures { result ≡ nothing_read }
+    {
+        Self {
+            bytes: [0; N],
+            place: 0,
+            filled: 0,
+            source: Source::Open,
+        }
     }
-    let k = end - from;
-    let mut i: usize = 0;
-    while i < k {
-        let j = from + i;
-        space[i] = space[j];
-        i += 1;
+
+    pub fn unread(&self) -> &[u8]
+        ensures { result.now ≡ self.now.bytes }
+    {
+        let bytes = &self.bytes[..];
+        &bytes[self.place..self.filled]
     }
-    k
-}
 
-// What a space holds after more was read: so many bytes; whether the input has ended; whether the read failed.
-#[derive(Clone, Copy)]
-pub struct Filled {
-    pub length: usize,
-    pub ended: bool,
-    pub failed: bool,
-}
-
-// Moves the bytes from one place up to another to the front and reads behind them, where there is room: in a full space nothing can
-// be read, and that counts as the end.
-pub fn refilled<R: Read>(reader: &mut R, space: &mut [u8], from: usize, to: usize) -> Filled
-    ensures prefix_len { IsPrefixLen result.length space.new }
-    ensures refilled { spaces.Refilled from to space.old space.new result.length result.ended result.failed }
-{
-    let held = to_front(space, from, to);
-    match reader.read(&mut space[held..]) {
-        Ok(more) => Filled {
-            length: held + more,
-            ended: more == 0,
-            failed: false,
-        },
-        Err(_) => Filled {
-            length: held,
-            ended: false,
-            failed: true,
-        },
+    pub fn source(&self) -> Source
+        ensures { result ≡ self.now.source }
+    {
+        self.source
     }
-}
 
-// ---- what is held of the input
+    // Whether there is more to read before n bytes can be looked at.
+    pub fn wants(&self, n: usize) -> bool
+        ensures { result ≡ wants self.now n }
+    {
+        self.source == Source::Open && self.filled - self.place < n
+    }
 
-// The bytes of a space that are not used yet lie from `place` up to `filled`; whether the input is at its end, and whether by a failure.
-#[derive(Clone, Copy)]
-pub struct Input {
-    pub place: usize,
-    pub filled: usize,
-    pub ended: bool,
-    pub failed: bool,
-}
+    // n bytes more are used.
+    pub fn pass(&mut self, n: usize)
+        ensures { self.new ≡ passed self.old n }
+    {
+        self.place += n.min(self.filled - self.place);
+    }
 
-pub fn nothing_read() -> Input
-    ensures { result ≡ record { place = 0; filled = 0; ended = false; failed = false } }
-{
-    Input {
-        place: 0,
-        filled: 0,
-        ended: false,
-        failed: false,
+    // What is not used yet goes to the front, and more is read behind it, where there is room; of a full space that counts as the end.
+    pub fn read_on<R: Read>(&mut self, reader: &mut R) -> io::Result<usize>
+        ensures { ReadOn N (R.remaining reader.old) (R.remaining reader.new) self.old self.new result }
+    {
+        let space = &mut self.bytes[..];
+        space.copy_within(self.place..self.filled, 0);
+        self.filled -= self.place;
+        self.place = 0;
+        let read = reader.read(&mut space[self.filled..]);
+        match &read {
+            Ok(0) => self.source = Source::Ended,
+            Ok(n) => {
+                self.filled += *n;
+                self.source = Source::Open;
+            }
+            Err(_) => self.source = Source::Failed,
+        }
+        read
     }
 }
 
-// Whether there is more to read before n bytes can be looked at.
-pub fn wants(i: Input, n: usize) -> bool
-    ensures { result ≡ spaces.wants i n }
-{
-    let used = bits::least(i.place, i.filled);
-    !i.ended & (i.filled - used < n)
-}
+// ---- output
 
-// n bytes more are used.
-pub fn passed(i: Input, n: usize) -> Input
-    ensures { result ≡ spaces.passed i n }
+// What waits goes out, and nothing waits any more, even where that fails.
+pub fn send<const N: usize, W: Write>(
+    waiting: &mut ArrayVec<u8, N>,
+    writer: &mut W,
+) -> io::Result<()>
+    ensures emptied { waiting.new.items ≡ [] }
+    ensures sent { OnOk result (Appends (W.contents writer.old) (W.contents writer.new) waiting.old.items) }
 {
-    let mut j = i;
-    j.place = std::num::wrapping_add_usize(i.place, n);
-    j
-}
-
-// What is not used yet goes to the front, and more is read behind it.
-pub fn read_on<R: Read>(i: Input, reader: &mut R, space: &mut [u8]) -> Input
-    ensures { spaces.ReadOn i space.old space.new result }
-{
-    let f = refilled(reader, space, i.place, i.filled);
-    Input {
-        place: 0,
-        filled: f.length,
-        ended: f.ended | f.failed,
-        failed: f.failed,
-    }
+    let sent = writer.write_all(waiting.as_slice());
+    waiting.clear();
+    sent
 }
