@@ -5,14 +5,12 @@
 
 ghost use Rattle.std.specs.Prelude.{◌+◌, ◌≤◌, length};
 
-use bits::least;
+use arrayvec::ArrayVec;
 use model::{WideFrame, WideStep};
-use std::io::Read;
+use std::fmt::Display;
+use std::io::{Stderr, Stdin, Stdout};
+use std::ops::ControlFlow;
 use stream::Input;
-
-mod say; // what is said on standard error
-
-const STDOUT_FILENO: i32 = 1;
 
 const REQUEST_LENGTH: usize = 24;
 
@@ -39,52 +37,44 @@ struct Request {
 fn number(bytes: &[u8], i: usize) -> u32
     requires { i + 4 ≤ length bytes.now }
 {
-    let j = i + 1;
-    let k = i + 2;
-    let l = i + 3;
-    records::decode::word(bytes[i], bytes[j], bytes[k], bytes[l])
+    u32::from_le_bytes([bytes[i], bytes[i + 1], bytes[i + 2], bytes[i + 3]])
 }
 
-fn request_in(bytes: &[u8]) -> Request
-    requires { 24 ≤ length bytes.now }
-{
-    Request {
-        space: number(bytes, 0),
-        tag: number(bytes, 4),
-        a: number(bytes, 8),
-        b: number(bytes, 12),
-        c: number(bytes, 16),
-        d: number(bytes, 20),
+impl Request {
+    fn read(bytes: &[u8]) -> Self
+        requires { 24 ≤ length bytes.now }
+    {
+        Self {
+            space: number(bytes, 0),
+            tag: number(bytes, 4),
+            a: number(bytes, 8),
+            b: number(bytes, 12),
+            c: number(bytes, 16),
+            d: number(bytes, 20),
+        }
     }
-}
 
-// What a tag names.
-#[derive(Clone, Copy)]
-enum Named {
-    Unknown,
-    Step(WideStep),
-}
-
-// Numbers that the tag doesn't need are not looked at.
-fn step_of(q: Request) -> Named {
-    let tag = q.tag;
-    match tag {
-        1 => Named::Step(WideStep::Reset),
-        2 => Named::Step(WideStep::Read(q.a)),
-        3 => Named::Step(WideStep::Write(q.a, q.b)),
-        4 => Named::Step(WideStep::Idle),
-        5 => Named::Step(WideStep::BitTimes(q.a)),
-        6 => Named::Step(WideStep::Activity),
-        7 => Named::Step(WideStep::Start),
-        8 => Named::Step(WideStep::Outcome(q.a)),
-        9 => Named::Step(WideStep::Receive(WideFrame {
-            identifier: q.a,
-            low: q.c,
-            high: q.d,
-            length: q.b,
-        })),
-        10 => Named::Step(WideStep::ReceiveError(q.a, q.b)),
-        _ => Named::Unknown,
+    // The step that the tag names. Numbers that it doesn't need are not looked at.
+    fn step(&self) -> Option<WideStep> {
+        let step = match self.tag {
+            1 => WideStep::Reset,
+            2 => WideStep::Read(self.a),
+            3 => WideStep::Write(self.a, self.b),
+            4 => WideStep::Idle,
+            5 => WideStep::BitTimes(self.a),
+            6 => WideStep::Activity,
+            7 => WideStep::Start,
+            8 => WideStep::Outcome(self.a),
+            9 => WideStep::Receive(WideFrame {
+                identifier: self.a,
+                low: self.c,
+                high: self.d,
+                length: self.b,
+            }),
+            10 => WideStep::ReceiveError(self.a, self.b),
+            _ => return None,
+        };
+        Some(step)
     }
 }
 
@@ -92,20 +82,14 @@ fn step_of(q: Request) -> Named {
 
 fn answer(e: WideStep, space: usize) -> [u8; ANSWER_LENGTH] {
     let mut row = [UNTOUCHED; ANSWER_LENGTH];
-    let end = 2 + least(space, BUFFER_LENGTH);
-    let w = writer::write_record(e, &mut row[2..end]);
-    row[0] = w.code;
-    row[1] = (w.bytes % 256) as u8;
+    let end = 2 + space.min(BUFFER_LENGTH);
+    let (code, count) = match writer::write_record(e, &mut row[2..end]) {
+        Ok(n) => (0, (n % 256) as u8),
+        Err(why) => (u8::from(why), 0),
+    };
+    row[0] = code;
+    row[1] = count;
     row
-}
-
-// Copies an answer to the front of some space.
-fn copied(row: &[u8; ANSWER_LENGTH], to: &mut [u8]) -> usize {
-    let n = least(ANSWER_LENGTH, to.len());
-    for i in 0..n {
-        to[i] = row[i];
-    }
-    n
 }
 
 // ---- a turn of the loop
@@ -117,145 +101,118 @@ struct Place {
     bytes: u64,
 }
 
-fn next_place(k: Place) -> Place {
-    Place {
-        requests: std::num::wrapping_add_u64(k.requests, 1),
-        bytes: std::num::wrapping_add_u64(k.bytes, REQUEST_LENGTH as u64),
+impl Place {
+    fn next(self) -> Self {
+        Self {
+            requests: self.requests.wrapping_add(1),
+            bytes: self.bytes.wrapping_add(REQUEST_LENGTH as u64),
+        }
+    }
+
+    // Says at which request (from 1) and byte (from 0) something is wrong.
+    fn complain(self, err: Stderr, what: impl Display + Drop) {
+        let (request, byte) = (self.requests.wrapping_add(1), self.bytes);
+        let _ = eprintln!(err; "encoder: request {request} at byte {byte}: {what}");
     }
 }
 
-// How far the answers are written, how far the requests are answered, and the bytes of answers that wait in between.
-#[derive(Clone, Copy)]
-struct Progress {
+// How far the answers are written, how far the requests are answered, and the answers that wait in between.
+#[derive(Drop)]
+struct Session {
+    input: Input<65536>,
+    waiting: ArrayVec<u8, 65536>,
     written: Place,
     answered: Place,
-    waiting: usize,
-    input: Input,
-    going: bool,
+    stdin: Stdin,
+    stdout: Stdout,
+    stderr: Stderr,
 }
 
-fn begun() -> Progress {
-    let start = Place {
-        requests: 0,
-        bytes: 0,
-    };
-    Progress {
-        written: start,
-        answered: start,
-        waiting: 0,
-        input: stream::nothing_read(),
-        going: true,
-    }
-}
-
-fn stopped(p: Progress) -> Progress {
-    let mut q = p;
-    q.going = false;
-    q
-}
-
-// Says at which request something is wrong.
-fn say_place(k: Place) {
-    say::place(std::num::wrapping_add_u64(k.requests, 1), k.bytes);
-}
-
-// The answers that wait go out.
-fn flushed(p: Progress, out: &[u8]) -> Progress {
-    let n = least(p.waiting, out.len());
-    let ok = io::write_all(STDOUT_FILENO, &out[0..n]);
-    if !ok {
-        say_place(p.written);
-        say::say(b"standard output can't be written, the answers from here on are lost\n");
-    }
-    let here = p.answered;
-    let mut q = p;
-    q.written = here;
-    q.waiting = 0;
-    q.going = p.going & ok;
-    q
-}
-
-fn read_on<R: Read>(p: Progress, reader: &mut R, space: &mut [u8]) -> Progress {
-    if !p.going {
-        return p;
-    }
-    let i = stream::read_on(p.input, reader, space);
-    let mut q = p;
-    q.input = i;
-    if i.failed {
-        say_place(p.answered);
-        say::say(b"standard input can't be read\n");
-        return stopped(q);
-    }
-    q
-}
-
-// The answer goes behind those that wait. There is room: they all answer requests of one piece, which has more bytes.
-fn answered(p: Progress, e: WideStep, space: usize, out: &mut [u8]) -> Progress {
-    let row = answer(e, space);
-    let from = least(p.waiting, out.len());
-    let n = copied(&row, &mut out[from..]);
-    let mut q = p;
-    q.answered = next_place(p.answered);
-    q.waiting = std::num::wrapping_add_usize(from, n);
-    q.input = stream::passed(p.input, REQUEST_LENGTH);
-    q
-}
-
-// The request is answered, or what is wrong with it is told.
-fn handled(p: Progress, q: Request, out: &mut [u8]) -> Progress {
-    let x = step_of(q);
-    let Named::Step(e) = x else {
-        say_place(p.answered);
-        say::tag(q.tag);
-        return stopped(p);
-    };
-    if (BUFFER_LENGTH as u32) < q.space {
-        say_place(p.answered);
-        say::space(q.space);
-        return stopped(p);
-    }
-    answered(p, e, q.space as usize, out)
-}
-
-// The input ends, inside a request where bytes are left.
-fn ended(p: Progress, left: usize) -> Progress {
-    if left != 0 {
-        say_place(p.answered);
-        say::cut(left);
-    }
-    stopped(p)
-}
-
-// More is read, with all answers sent before that, or the next request is looked at.
-fn round<R: Read>(p: Progress, reader: &mut R, space: &mut [u8], out: &mut [u8]) -> Progress {
-    let i = p.input;
-    if stream::wants(i, REQUEST_LENGTH) {
-        return read_on(flushed(p, out), reader, space);
-    }
-    let filled = least(i.filled, space.len());
-    let place = least(i.place, filled);
-    let rest = &space[place..filled];
-    if rest.len() < REQUEST_LENGTH {
-        return ended(p, rest.len());
-    }
-    handled(p, request_in(rest), out)
-}
-
-// A loop that is proved has to end, and nothing says that the input does: no run uses so many turns up.
-fn run<R: Read>(reader: &mut R, space: &mut [u8], out: &mut [u8]) {
-    let mut p = begun();
-    for _ in 0..u64::MAX {
-        if !p.going {
-            break;
+impl Session {
+    fn begun(rt: &HostRuntime) -> Self {
+        let start = Place {
+            requests: 0,
+            bytes: 0,
+        };
+        Self {
+            input: Input::new(),
+            waiting: ArrayVec::new(),
+            written: start,
+            answered: start,
+            stdin: rt.stdin(),
+            stdout: rt.stdout(),
+            stderr: rt.stderr(),
         }
-        p = round(p, reader, space, out);
     }
-    flushed(p, out);
+
+    // Something is wrong with the next request, and nothing more is answered.
+    fn stopped(&self, what: impl Display + Drop) -> ControlFlow<()> {
+        self.answered.complain(self.stderr, what);
+        ControlFlow::Break(())
+    }
+
+    // The answers that wait go out.
+    fn flush(&mut self) -> ControlFlow<()> {
+        if stream::send(&mut self.waiting, &mut self.stdout).is_err() {
+            self.written.complain(
+                self.stderr,
+                "standard output can't be written, the answers from here on are lost",
+            );
+            return ControlFlow::Break(());
+        }
+        self.written = self.answered;
+        ControlFlow::Continue(())
+    }
+
+    // All answers go out before more is read.
+    fn read_on(&mut self) -> ControlFlow<()> {
+        self.flush()?;
+        if self.input.read_on(&mut self.stdin).is_err() {
+            return self.stopped("standard input can't be read");
+        }
+        ControlFlow::Continue(())
+    }
+
+    // The answer goes behind those that wait. There is room: they all answer requests of one piece, which has more bytes.
+    fn answer(&mut self, e: WideStep, space: usize) -> ControlFlow<()> {
+        let _fits = self.waiting.try_extend_from_slice(&answer(e, space));
+        self.answered = self.answered.next();
+        self.input.pass(REQUEST_LENGTH);
+        ControlFlow::Continue(())
+    }
+
+    // More is read, or the next request is answered, or what is wrong with it is told.
+    fn turn(&mut self) -> ControlFlow<()> {
+        if self.input.wants(REQUEST_LENGTH) {
+            return self.read_on();
+        }
+        let rest = self.input.unread();
+        let left = rest.len();
+        if left == 0 {
+            return ControlFlow::Break(());
+        }
+        if left < REQUEST_LENGTH {
+            return self.stopped(format_args!("cut short, {left} bytes of 24"));
+        }
+        let request = Request::read(rest);
+        let (tag, space) = (request.tag, request.space);
+        let Some(step) = request.step() else {
+            return self.stopped(format_args!("unknown tag {tag}, the tags are 1 to 10"));
+        };
+        if space > BUFFER_LENGTH as u32 {
+            return self.stopped(format_args!("space {space}, the buffer has 20 bytes"));
+        }
+        self.answer(step, space as usize)
+    }
 }
 
 fn main(rt: HostRuntime) {
-    let mut space = io::large_buffer();
-    let mut out = io::large_buffer();
-    run(&mut rt.stdin(), &mut space, &mut out);
+    let mut session = Session::begun(&rt);
+    // A proved loop has to end, and nothing says that the input does: no run uses so many turns up.
+    for _ in 0..u64::MAX {
+        if session.turn().is_break() {
+            break;
+        }
+    }
+    let _ = session.flush();
 }

@@ -1,14 +1,13 @@
 -- A text is read as the number that its digits say.
-use Rattle.std.proofs.Common.{◌≡◌, ℕ, ◌+◌, ◌-◌, ◌*◌, ◌^◌, ◌<◌, ◌≤◌, Bool, true, false, not, ◌&&◌, eqb, ltb, List, [], ◌∷◌, length, refl, arith, ltb-false, ltb-true, le-ltb, lt-ltb, le-leb}
+use Rattle.std.proofs.Common.{◌≡◌, ℕ, ◌+◌, ◌-◌, ◌*◌, ◌^◌, ◌<◌, ◌≤◌, Bool, true, false, not, ◌&&◌, eqb, ltb, List, [], ◌∷◌, length, refl, arith, ltb-false, ltb-true, le-ltb, lt-ltb, le-leb, Some, None}
 use mathlib.Core.Bool.{and-false}
 use borrow.Author.Tests.{lt-leb}
 use Rattle.base.specs.Base.{pick}
 use Rattle.starvation.specs.Number.{numeral_numbers, with_digit, next, read_on, parsed}
 use Rattle.starvation.specs.Decimal.{all_digits, decimal_from, Decimal}
-use Rattle.starvation.specs.declared.number.Numeral.TheVariants.{Number, Bad}
 
 -- what is no number stays none
-stays-bad : (s : List ℕ) → read_on Bad s ≡ Bad
+stays-bad : (s : List ℕ) → read_on None s ≡ None
 unfolding read_on next
 stays-bad [] = refl
 stays-bad (c ∷ s) = stays-bad s
@@ -22,7 +21,7 @@ decimal-least n (c ∷ s) = omega (arith, decimal-least (n * 10 + (c - 48)) s)
 abbrev Said : ℕ → List ℕ → List ℕ
 Said n s = pick (all_digits s && ltb (decimal_from n s) (2 ^ 32)) (1 ∷ decimal_from n s ∷ []) (0 ∷ [])
 
-reads_on : (s : List ℕ) (n : ℕ) → n < 2 ^ 32 → numeral_numbers (read_on (Number n) s) ≡ Said n s
+reads_on : (s : List ℕ) (n : ℕ) → n < 2 ^ 32 → numeral_numbers (read_on (Some n) s) ≡ Said n s
 unfolding read_on next with_digit all_digits decimal_from
 reads_on [] n h = rw (lt-ltb n (2 ^ 32) h)
 reads_on (c ∷ s) n h = below (ltb c 48) refl (reads_on s (n * 10 + (c - 48)))
@@ -31,7 +30,7 @@ reads_on (c ∷ s) n h = below (ltb c 48) refl (reads_on s (n * 10 + (c - 48)))
     m = n * 10 + (c - 48)
 
     Rest : Type 0
-    Rest = m < 2 ^ 32 → numeral_numbers (read_on (Number m) s) ≡ Said m s
+    Rest = m < 2 ^ 32 → numeral_numbers (read_on (Some m) s) ≡ Said m s
 
     fits : (b : Bool) → ltb 4294967295 m ≡ b → ltb c 48 ≡ false → ltb 57 c ≡ false → Rest
         → numeral_numbers (read_on (with_digit n c) s) ≡ Said n (c ∷ s)
@@ -54,6 +53,6 @@ unfolding parsed
 decimal s = record { value = go (eqb (length s) 0) refl }
   where
     go : (b : Bool) → eqb (length s) 0 ≡ b
-        → numeral_numbers (pick b Bad (read_on (Number 0) s)) ≡ pick (not b && all_digits s && ltb (decimal_from 0 s) (2 ^ 32)) (1 ∷ decimal_from 0 s ∷ []) (0 ∷ [])
+        → numeral_numbers (pick b None (read_on (Some 0) s)) ≡ pick (not b && all_digits s && ltb (decimal_from 0 s) (2 ^ 32)) (1 ∷ decimal_from 0 s ∷ []) (0 ∷ [])
     go true e = refl
     go false e = reads_on s 0 (omega arith)

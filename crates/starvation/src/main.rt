@@ -3,16 +3,11 @@
 // the picture is an answer of the controller. That there is such a history for every n is proved (`starvation` in the model).
 #![tactic(auto)]
 
-use command_line::Given;
 use model::{Controller, Step};
-use number::Numeral;
 use std::env::Env;
+use std::io;
 
 mod number;
-
-const STDOUT_FILENO: i32 = 1;
-
-const STDERR_FILENO: i32 = 2;
 
 // The traffic through one controller: what it is after the last turn, whether mailbox 0 still waits, how many frames of others
 // ended well while it did, which mailbox was started last, TSR while its frame was on the wire, and whether every answer so
@@ -27,41 +22,6 @@ struct Traffic {
     good: bool,
 }
 
-// ---- the traffic
-
-fn is_done(code: u8) -> bool {
-    code == 0
-}
-
-// To Normal, with TXFP or without; mailboxes 1 and 2 ask, then mailbox 0.
-fn opening(i: u32, txfp: bool) -> Step {
-    match i {
-        0 => Step::Write(0x000, bits::pick(txfp, 4, 0)),
-        1 => Step::Idle,
-        2 => Step::Write(0x190, 0x20000001),
-        3 => Step::Write(0x1A0, 0x20200001),
-        _ => Step::Write(0x180, 0xFFE00001),
-    }
-}
-
-fn opened(txfp: bool) -> Traffic {
-    let mut z = controller::reset();
-    let mut good = true;
-    for i in 0..5 {
-        let a = controller::step(z, opening(i, txfp));
-        z = a.controller;
-        good = good & is_done(a.code);
-    }
-    Traffic {
-        controller: z,
-        others: 0,
-        sent: 0,
-        tsr: 0,
-        waits: true,
-        good: good,
-    }
-}
-
 // The mailbox that was sent before is filled again; mailbox 0 is not, and then TSR is read.
 fn filled(sent: u32) -> Step {
     match sent {
@@ -71,184 +31,168 @@ fn filled(sent: u32) -> Step {
     }
 }
 
-// A start, the filling, a look at TSR, a good end, and another look: mailbox 0 must be empty exactly when it was sent.
-fn turn(t: Traffic) -> Traffic {
-    let z = t.controller;
-    let a = controller::step(z, Step::Start);
-    let b = controller::step(a.controller, filled(t.sent));
-    let c = controller::step(b.controller, Step::Read(0x008));
-    let d = controller::step(c.controller, Step::Outcome(0));
-    let e = controller::step(d.controller, Step::Read(0x008));
-    let last = e.controller;
-    let waits = t.waits & (a.word != 0);
-    let empty = bits::bit(26, e.word);
-    let done = is_done(a.code) & is_done(b.code) & is_done(c.code) & is_done(d.code);
-    Traffic {
-        controller: last,
-        others: std::num::wrapping_add_u32(t.others, bits::one(waits)),
-        sent: a.word,
-        tsr: c.word,
-        waits: waits,
-        good: t.good & done & is_done(e.code) & ((waits & !empty) | (!waits & empty)),
+impl Traffic {
+    // To Normal, with TXFP or without; mailboxes 1 and 2 ask, then mailbox 0.
+    fn opened(txfp: bool) -> Self {
+        let mut controller = controller::reset();
+        let mut good = true;
+        for step in [
+            Step::Write(0x000, if txfp { 4 } else { 0 }),
+            Step::Idle,
+            Step::Write(0x190, 0x20000001),
+            Step::Write(0x1A0, 0x20200001),
+            Step::Write(0x180, 0xFFE00001),
+        ] {
+            let a = controller::step(controller, step);
+            controller = a.controller;
+            good = good && a.code == 0;
+        }
+        Traffic {
+            controller,
+            others: 0,
+            sent: 0,
+            tsr: 0,
+            waits: true,
+            good,
+        }
+    }
+
+    // A start, the filling, a look at TSR, a good end, and another look: mailbox 0 must be empty exactly when it was sent.
+    fn turned(self) -> Self {
+        let a = controller::step(self.controller, Step::Start);
+        let b = controller::step(a.controller, filled(self.sent));
+        let c = controller::step(b.controller, Step::Read(0x008));
+        let d = controller::step(c.controller, Step::Outcome(0));
+        let e = controller::step(d.controller, Step::Read(0x008));
+        let waits = self.waits && a.word != 0;
+        let done = a.code == 0 && b.code == 0 && c.code == 0 && d.code == 0 && e.code == 0;
+        Traffic {
+            controller: e.controller,
+            others: self.others.wrapping_add(u32::from(waits)),
+            sent: a.word,
+            tsr: c.word,
+            waits,
+            good: self.good && done && waits != bits::bit(26, e.word),
+        }
+    }
+
+    // ---- the picture
+
+    fn mark(&self, m: u32, tme: u32) -> &'static str {
+        if self.sent == m {
+            " #"
+        } else if bits::bit(tme, self.tsr) {
+            " ."
+        } else {
+            " |"
+        }
+    }
+
+    // The marks; while mailbox 0 waits, how many others have been sent; then, once, that it is sent.
+    fn print(&self, rt: &impl Print) -> io::Result<()> {
+        let (a, b, c) = (self.mark(0, 26), self.mark(1, 27), self.mark(2, 28));
+        print!(rt; "         {a}{b}{c}")?;
+        let others = self.others;
+        if self.waits {
+            print!(rt; "{others:>10}")
+        } else if self.sent == 0 {
+            print!(rt; "    mailbox 0 is sent, after {others}")
+        } else {
+            Ok(())
+        }
     }
 }
 
-// ---- the picture
-
-fn say(text: &[u8]) {
-    io::write_all(STDOUT_FILENO, text);
+fn print_head(rt: &impl Print) -> io::Result<()> {
+    println!(rt;
+        "Mailbox 0 asks to send \"close gate\", identifier 0x7FF. Mailboxes 1 and 2 send reports, identifiers 0x100 and"
+    )?;
+    println!(rt;
+        "0x101, and each is filled again while the other one is on the wire. One turn is one frame that ends well."
+    )?;
+    println!(rt; "Marks: # on the wire, | waits, . empty")?;
+    println!(rt)?;
+    println!(rt; "            lowest identifier first (TXFP=0)     order of requests (TXFP=1)")?;
+    println!(rt;
+        "      turn  mailbox 0 1 2    others              mailbox 0 1 2    others sent before mailbox 0"
+    )
 }
 
-fn decimal(n: u32) {
-    io::print_decimal(STDOUT_FILENO, n as u64);
+fn print_row(rt: &impl Print, k: u32, left: &Traffic, right: &Traffic) -> io::Result<()> {
+    print!(rt; "{k:>10}")?;
+    left.print(rt)?;
+    print!(rt; "            ")?;
+    right.print(rt)?;
+    println!(rt)
 }
 
-// Blanks up to a width of ten.
-fn pad(from: usize) {
-    for _ in from..10 {
-        say(b" ");
-    }
-}
-
-// A number at the right of a column of ten.
-fn aligned(n: u32) {
-    let mut digits = [0u8; 20];
-    let k = io::decimal(n as u64, &mut digits);
-    pad(k);
-    io::write_all(STDOUT_FILENO, &digits[..k]);
-}
-
-fn head() {
-    say(
-        b"Mailbox 0 asks to send \"close gate\", identifier 0x7FF. Mailboxes 1 and 2 send reports, identifiers 0x100 and\n",
-    );
-    say(
-        b"0x101, and each is filled again while the other one is on the wire. One turn is one frame that ends well.\n",
-    );
-    say(b"Marks: # on the wire, | waits, . empty\n\n");
-    say(b"            lowest identifier first (TXFP=0)     order of requests (TXFP=1)\n");
-    say(
-        b"      turn  mailbox 0 1 2    others              mailbox 0 1 2    others sent before mailbox 0\n",
-    );
-}
-
-fn mark(t: Traffic, m: u32, tme: u32) {
-    if t.sent == m {
-        say(b" #");
-        return;
-    }
-    if bits::bit(tme, t.tsr) {
-        say(b" .");
-        return;
-    }
-    say(b" |");
-}
-
-fn marks(t: Traffic) {
-    say(b"         ");
-    mark(t, 0, 26);
-    mark(t, 1, 27);
-    mark(t, 2, 28);
-}
-
-// While mailbox 0 waits, how many others have been sent; then, once, that it is sent.
-fn fate(t: Traffic) {
-    if t.waits {
-        aligned(t.others);
-        return;
-    }
-    if t.sent == 0 {
-        say(b"    mailbox 0 is sent, after ");
-        decimal(t.others);
-    }
-}
-
-fn row(k: u32, left: Traffic, right: Traffic) {
-    aligned(k);
-    marks(left);
-    fate(left);
-    say(b"            ");
-    marks(right);
-    fate(right);
-    say(b"\n");
-}
-
-fn left_out(n: u32) {
-    say(b"       ...  ");
-    decimal(n);
-    say(
-        b" turns left out; in each the same was checked: no step was refused, and after it TSR showed\n",
-    );
-    say(b"            mailbox 0 as not empty on the left and as empty on the right\n");
+fn print_left_out(rt: &impl Print, n: u32) -> io::Result<()> {
+    println!(rt;
+        "       ...  {n} turns left out; in each the same was checked: no step was refused, and after it TSR showed"
+    )?;
+    println!(rt; "            mailbox 0 as not empty on the left and as empty on the right")
 }
 
 // The first eight turns and the last three; all where there are few.
-fn picture(k: u32, last: u32, left: Traffic, right: Traffic) {
-    if last <= 12 {
-        row(k, left, right);
-        return;
-    }
-    if (k <= 8) | ((last as u64) < (k as u64) + 3) {
-        row(k, left, right);
-        return;
-    }
-    if k == 9 {
-        left_out(last - 11);
+fn print_turn(
+    rt: &impl Print,
+    k: u32,
+    last: u32,
+    left: &Traffic,
+    right: &Traffic,
+) -> io::Result<()> {
+    if last <= 12 || k <= 8 || last.saturating_sub(k) < 3 {
+        print_row(rt, k, left, right)
+    } else if k == 9 {
+        print_left_out(rt, last - 11)
+    } else {
+        Ok(())
     }
 }
 
-fn result(left: Traffic, right: Traffic) {
-    say(b"\nLowest identifier first: ");
-    decimal(left.others);
-    say(b" other frames have ended well since mailbox 0 asked, and it still waits.\n");
-    say(b"Order of requests: mailbox 0 was sent after ");
-    decimal(right.others);
-    say(b" others.\n");
+fn print_result(rt: &impl Print, left: &Traffic, right: &Traffic) -> io::Result<()> {
+    println!(rt)?;
+    println!(rt;
+        "Lowest identifier first: {} other frames have ended well since mailbox 0 asked, and it still waits.",
+        left.others
+    )?;
+    println!(rt;
+        "Order of requests: mailbox 0 was sent after {} others.",
+        right.others
+    )
 }
 
 // ---- the program
 
-fn at_least_three(n: u32) -> u32 {
-    if n < 3 {
-        return 3;
-    }
-    n
-}
-
-fn complain(text: &[u8]) {
-    io::write_all(STDERR_FILENO, text);
-}
-
-fn show(n: u32) {
-    let last = at_least_three(n);
-    let mut left = opened(false);
-    let mut right = opened(true);
-    head();
-    for before in 0..last {
-        let k = before + 1;
-        left = turn(left);
-        right = turn(right);
-        if !left.good | !right.good | !left.waits {
-            complain(b"starvation: an answer of the controller is not the expected one\n");
-            return;
+fn show(rt: &(impl Print + Eprint), n: u32) -> io::Result<()> {
+    let last = n.max(3);
+    let mut left = Traffic::opened(false);
+    let mut right = Traffic::opened(true);
+    print_head(rt)?;
+    for k in 1..=last {
+        left = left.turned();
+        right = right.turned();
+        if !left.good || !right.good || !left.waits {
+            return eprintln!(rt; "starvation: an answer of the controller is not the expected one");
         }
-        picture(k, last, left, right);
+        print_turn(rt, k, last, &left, &right)?;
     }
-    result(left, right);
+    print_result(rt, &left, &right)
 }
 
 // The number that is the only argument.
-fn argument(rt: &impl Env) -> Numeral {
-    let mut text = io::buffer();
-    match command_line::arguments(rt, &mut text) {
-        Given::One(length) => number::parsed(&text[..length]),
-        _ => Numeral::Bad,
+fn argument(rt: &impl Env) -> Option<u32> {
+    let mut text = [0; 4096];
+    match command_line::argument(rt, &mut text) {
+        Ok(Some(length)) => number::parsed(&text[..length]),
+        _ => None,
     }
 }
 
+// Output that can't be written is lost, and there is nobody to tell.
 fn main(rt: HostRuntime) {
-    match argument(&rt) {
-        Numeral::Bad => complain(b"usage: starvation N, with N from 0 to 4294967295\n"),
-        Numeral::Number(n) => show(n),
-    }
+    let _ = match argument(&rt) {
+        Some(n) => show(&rt, n),
+        None => eprintln!(rt; "usage: starvation N, with N from 0 to 4294967295"),
+    };
 }

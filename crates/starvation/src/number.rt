@@ -2,51 +2,28 @@
 ghost use Rattle.std.specs.Prelude.{◌≡◌};
 ghost use Rattle.starvation.specs.Number as numbers;
 
-#[derive(Clone, Copy)]
-pub enum Numeral {
-    Number(u32),
-    Bad,
-}
-
 // One digit more.
 #[tactic(auto, unfolding(crate::specs::Number::with_digit))]
-fn with_digit(n: u32, c: u8) -> Numeral
+fn with_digit(n: u32, c: u8) -> Option<u32>
     ensures { result ≡ numbers.with_digit n c }
 {
-    if c < 48 {
-        return Numeral::Bad;
-    }
-    if 57 < c {
-        return Numeral::Bad;
-    }
-    let d = c - 48;
-    let all = (n as u64) * 10 + (d as u64);
-    if 4294967295 < all {
-        return Numeral::Bad;
-    }
-    Numeral::Number(all as u32)
-}
-
-#[tactic(auto, unfolding(crate::specs::Number::next))]
-fn next(p: Numeral, c: u8) -> Numeral
-    ensures { result ≡ numbers.next p c }
-{
-    match p {
-        Numeral::Number(n) => with_digit(n, c),
-        Numeral::Bad => Numeral::Bad,
+    match c {
+        b'0'..=b'9' => n.checked_mul(10)?.checked_add(u32::from(c - b'0')),
+        _ => None,
     }
 }
 
 // A text of one digit or more, and nothing else.
-pub fn parsed(text: &[u8]) -> Numeral
+#[tactic(auto, unfolding(crate::specs::Number::parsed))]
+pub fn parsed(text: &[u8]) -> Option<u32>
     ensures { result ≡ numbers.parsed text.now }
 {
-    if text.len() == 0 {
-        return Numeral::Bad;
+    if text.is_empty() {
+        return None;
     }
-    let mut p = Numeral::Number(0);
+    let mut n = 0;
     for c in text {
-        p = next(p, *c);
+        n = with_digit(n, *c)?;
     }
-    p
+    Some(n)
 }

@@ -3,107 +3,87 @@
 #![tactic(auto)]
 
 use hex_text::{Fault, Place, Reader};
+use std::fmt;
 use std::io::Read;
 
-const STDOUT_FILENO: i32 = 1;
-
-const STDERR_FILENO: i32 = 2;
-
-fn say(text: &[u8]) {
-    io::write_all(STDERR_FILENO, text);
+// Why nothing more is read.
+#[derive(Drop)]
+enum Stop {
+    Ended,
+    Fault(Reader, Fault),
+    Unread,
+    Unwritten,
 }
 
-fn say_character(c: u8) {
-    if (c < 33) | (126 < c) {
-        say(b"the byte 0x");
-        io::print_hex(STDERR_FILENO, c as u64, 2);
-    } else {
-        say(b"'");
-        io::write_all(STDERR_FILENO, &[c]);
-        say(b"'");
-    }
-    say(b" is no hex digit, blank, line end or comment\n");
-}
-
-fn say_fault(r: Reader, f: Fault) {
-    say(b"line ");
-    io::print_decimal(STDERR_FILENO, r.line);
-    say(b", column ");
-    io::print_decimal(STDERR_FILENO, r.column);
-    say(b": ");
-    match f {
-        Fault::Character(c) => say_character(c),
-        Fault::LoneDigit => say(b"a hex digit stands alone; a byte is two of them\n"),
-    }
-}
-
-// Whether the text goes on.
-fn goes_on(r: Reader) -> bool {
-    let p = r.place;
-    match p {
-        Place::Between => true,
-        Place::Inside(_) => true,
-        Place::Comment => true,
-        Place::Stopped(f) => {
-            say_fault(r, f);
-            false
+impl fmt::Display for Stop {
+    fn fmt<W: fmt::Write>(&self, f: &mut fmt::Formatter<W>) -> fmt::Result {
+        match self {
+            Stop::Ended => Ok(()),
+            Stop::Fault(reader, fault) => {
+                let (line, column) = (reader.line, reader.column);
+                write!(f, "line {line}, column {column}: ")?;
+                match fault {
+                    Fault::Character(c) if (33..=126).contains(c) => {
+                        write!(f, "'{}'", char::from(*c))?;
+                        write!(f, " is no hex digit, blank, line end or comment\n")
+                    }
+                    Fault::Character(c) => write!(
+                        f,
+                        "the byte 0x{c:02x} is no hex digit, blank, line end or comment\n"
+                    ),
+                    Fault::LoneDigit => {
+                        write!(f, "a hex digit stands alone; a byte is two of them\n")
+                    }
+                }
+            }
+            Stop::Unread => write!(f, "standard input can't be read\n"),
+            Stop::Unwritten => write!(f, "standard output can't be written\n"),
         }
     }
 }
 
-// The reader behind one more read of standard input, and whether to go on.
-#[derive(Clone, Copy)]
-struct Round {
-    reader: Reader,
-    more: bool,
-}
-
-fn over(r: Reader) -> Round {
-    Round {
-        reader: r,
-        more: false,
+// The reader, unless it stands at a fault.
+fn without_fault(r: Reader) -> Result<Reader, Stop> {
+    match r.place {
+        Place::Stopped(fault) => Err(Stop::Fault(r, fault)),
+        _ => Ok(r),
     }
 }
 
-// The bytes of a piece of text are written.
-fn written(r: Reader, text: &mut [u8]) -> Round {
-    let piece = r.unhexed(text);
-    let count = piece.count;
-    let next = piece.reader;
-    if !io::write_all(STDOUT_FILENO, &text[..count]) {
-        say(b"standard output can't be written\n");
-        return over(next);
-    }
-    Round {
-        reader: next,
-        more: goes_on(next),
-    }
-}
-
-fn read_some<R: Read>(r: Reader, input: &mut R) -> Round {
-    let mut buf = io::large_buffer();
-    match input.read(&mut buf) {
+// One more piece of text is read, and its bytes are written.
+fn turn<R: Read>(
+    rt: &impl Print,
+    input: &mut R,
+    space: &mut [u8],
+    r: Reader,
+) -> Result<Reader, Stop> {
+    match input.read(space) {
         Ok(0) => {
-            goes_on(r.ended());
-            over(r)
+            without_fault(r.ended())?;
+            Err(Stop::Ended)
         }
-        Ok(n) => written(r, &mut buf[..n]),
-        Err(_) => {
-            say(b"standard input can't be read\n");
-            over(r)
+        Ok(n) => {
+            let piece = r.unhexed(&mut space[..n]);
+            if rt.write_all(&space[..piece.count]).is_err() {
+                return Err(Stop::Unwritten);
+            }
+            without_fault(piece.reader)
         }
+        Err(_) => Err(Stop::Unread),
     }
 }
 
-// A proved loop has to end, and nothing says that the input does: no run uses so many turns up.
 fn main(rt: HostRuntime) {
-    let mut input = rt.stdin();
-    let mut r = Reader::start();
+    let mut space = [0; 65536];
+    let mut reader = Reader::start();
+    // A proved loop has to end, and nothing says that the input does: no run uses so many turns up.
     for _ in 0..u64::MAX {
-        let x = read_some(r, &mut input);
-        if !x.more {
-            return;
+        match turn(&rt, &mut rt.stdin(), &mut space, reader) {
+            Ok(next) => reader = next,
+            Err(stop) => {
+                let _ = eprint!(rt; "{stop}");
+                return;
+            }
         }
-        r = x.reader;
     }
 }

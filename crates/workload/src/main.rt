@@ -2,11 +2,8 @@
 // accepted register accesses. `step` is called at one place, as a replay does.
 #![tactic(auto)]
 
-use command_line::Given;
 use model::{Frame, Step};
 use std::env::Env;
-
-const STDOUT_FILENO: i32 = 1;
 
 // Eight active banks, two of each class, one of the two for each FIFO; then Normal.
 fn set_up(i: u32) -> Step {
@@ -45,8 +42,7 @@ fn frame(i: u32) -> Frame {
 
 // In turn: TSR, MSR, ESR and RF0R read, IER and a bank's word written, the word read, MSR written.
 fn access(i: u32) -> Step {
-    let k = i % 8;
-    match k {
+    match i % 8 {
         0 => Step::Read(0x008),
         1 => Step::Read(0x004),
         2 => Step::Read(0x018),
@@ -60,19 +56,16 @@ fn access(i: u32) -> Step {
 
 fn next(registers: bool, i: u32) -> Step {
     if registers {
-        return access(i);
+        access(i)
+    } else if i < 19 {
+        set_up(i)
+    } else {
+        Step::Receive(frame(i))
     }
-    if i < 19 {
-        return set_up(i);
-    }
-    Step::Receive(frame(i))
 }
 
 fn has_argument(rt: &impl Env) -> bool {
-    match command_line::arguments(rt, &mut [0u8; 1]) {
-        Given::Nothing => false,
-        _ => true,
-    }
+    !matches!(command_line::argument(rt, &mut [0u8; 1]), Ok(None))
 }
 
 fn main(rt: HostRuntime) {
@@ -83,16 +76,10 @@ fn main(rt: HostRuntime) {
     for i in 0..100019 {
         let a = controller::step(z, next(registers, i));
         z = a.controller;
-        words = std::num::wrapping_add_u32(words, a.word);
-        refused = std::num::wrapping_add_u32(refused, a.code as u32);
+        words = words.wrapping_add(a.word);
+        refused = refused.wrapping_add(u32::from(a.code));
     }
-    let c = z.core;
-    let q = c.fifo0;
-    let x = q.third;
-    io::print_decimal(STDOUT_FILENO, refused as u64);
-    io::write_all(STDOUT_FILENO, b" ");
-    io::print_decimal(STDOUT_FILENO, words as u64);
-    io::write_all(STDOUT_FILENO, b" ");
-    io::print_hex(STDOUT_FILENO, x.rdl as u64, 8);
-    io::write_all(STDOUT_FILENO, b"\n");
+    let rdl = z.core.fifo0.third.rdl;
+    // Output that can't be written is lost, and there is nobody to tell.
+    let _ = println!(rt; "{refused} {words} {rdl:08x}");
 }

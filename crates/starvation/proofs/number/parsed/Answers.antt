@@ -1,23 +1,23 @@
-use Rattle.std.proofs.Common.{◌<◌, ◌≤◌, length, sym, ◌∙◌, arith, eq-eqb, ne_eqb}
-use Rattle.starvation.specs.Number.{parsed}
-use Rattle.starvation.proofs.Digits.{one_more, at_end_lem}
+use Rattle.std.proofs.Common.{◌≢◌, length, drop, ◌+◌, sym, ◌∙◌, arith, rules, Some, None}
+use Rattle.starvation.proofs.Digits.{stays-none, one_more, at_end, parsed-some}
 use Rattle.starvation.proofs.number.parsed.Goals as goal
 
 pub loop-c-preserved : goal.loop-c-preserved
 loop-c-preserved c =
+    let l = c.loop-c in
+    one_more l.n (Some c.in_ok-n.n) c.args.text.now l.c-index (omega arith) c.in_ok-n.ensures ∙ l.invariant
+
+pub returns-in_err-n : goal.returns-in_err-n
+returns-in_err-n c =
     let t = c.args.text.now in
     let l = c.loop-c in
-    let h : l.c-index < length t = omega arith in
-    one_more l.p c.next-p.result t l.c-index h c.next-p.ensures ∙ l.invariant
-
-pub returns-then-text-eq0 : goal.returns-then-text-eq0
-unfolding parsed
-returns-then-text-eq0 c = simp (eq-eqb _ _ c.if-text-eq0.true)
+    let some : length t ≢ 0 = search rules in
+    rw (c.from_residual.ensures, parsed-some t some)
+    (sym (stays-none (drop (l.c-index + 1) t)) ∙ one_more l.n None t l.c-index (omega arith) c.in_err-n.ensures ∙ l.invariant)
 
 pub returns : goal.returns
-unfolding parsed
 returns c =
     let t = c.args.text.now in
     let l = c.loop-c in
-    let h : length t ≤ l.c-index = omega arith in
-    simp (ne_eqb _ _ c.if-text-eq0.false) (sym (at_end_lem l.p t l.c-index h) ∙ l.invariant)
+    let some : length t ≢ 0 = search rules in
+    rw (parsed-some t some) (sym (at_end (Some l.n) t l.c-index (omega arith)) ∙ l.invariant)
