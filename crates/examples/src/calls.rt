@@ -1,72 +1,126 @@
 // Each register access and event, by value or on a controller that is lent.
+ghost use Rattle.std.specs.Prelude.{◌≡◌};
+ghost use Rattle.model.specs.Step as stepping;
+ghost use Rattle.model.specs.declared.Step.TheVariants as steps;
+
 use model::{Controller, Frame, Stepped};
 
-pub(crate) fn hardware_reset(on_lent: bool, z: Controller) -> Stepped {
-    if on_lent {
-        return lent::hardware_reset(z);
-    }
-    access::hardware_reset(z)
+pub(crate) trait Calls {
+    fn hardware_reset(z: Controller) -> Stepped
+        ensures { result ≡ stepping.step z steps.Reset };
+
+    fn read(z: Controller, offset: u16) -> Stepped
+        ensures { result ≡ stepping.step z (steps.Read offset) };
+
+    fn write(z: Controller, offset: u16, word: u32) -> Stepped
+        ensures { result ≡ stepping.step z (steps.Write offset word) };
+
+    fn idle(z: Controller) -> Stepped
+        ensures { result ≡ stepping.step z steps.Idle };
+
+    fn bit_times(z: Controller, n: u16) -> Stepped
+        ensures { result ≡ stepping.step z (steps.BitTimes n) };
+
+    fn activity(z: Controller) -> Stepped
+        ensures { result ≡ stepping.step z steps.Activity };
+
+    fn start(z: Controller) -> Stepped
+        ensures { result ≡ stepping.step z steps.Start };
+
+    fn outcome(z: Controller, res: u8) -> Stepped
+        ensures { result ≡ stepping.step z (steps.Outcome res) };
+
+    fn frame_received(z: Controller, x: Frame) -> Stepped
+        ensures { result ≡ stepping.step z (steps.Receive x) };
+
+    fn receive_error(z: Controller, code: u8, by: u8) -> Stepped
+        ensures { result ≡ stepping.step z (steps.ReceiveError code by) };
 }
 
-pub(crate) fn read(on_lent: bool, z: Controller, offset: u16) -> Stepped {
-    if on_lent {
-        return lent::read(z, offset);
+pub(crate) struct ByValue;
+
+pub(crate) struct Lent;
+
+impl Calls for ByValue {
+    fn hardware_reset(z: Controller) -> Stepped {
+        access::hardware_reset(z)
     }
-    access::read(z, offset)
+
+    fn read(z: Controller, offset: u16) -> Stepped {
+        access::read(z, offset)
+    }
+
+    fn write(z: Controller, offset: u16, word: u32) -> Stepped {
+        access::write(z, offset, word)
+    }
+
+    fn idle(z: Controller) -> Stepped {
+        access::idle(z)
+    }
+
+    fn bit_times(z: Controller, n: u16) -> Stepped {
+        access::bit_times(z, n)
+    }
+
+    fn activity(z: Controller) -> Stepped {
+        access::activity(z)
+    }
+
+    fn start(z: Controller) -> Stepped {
+        access::start(z)
+    }
+
+    fn outcome(z: Controller, res: u8) -> Stepped {
+        access::outcome(z, res)
+    }
+
+    fn frame_received(z: Controller, x: Frame) -> Stepped {
+        access::frame_received(z, x)
+    }
+
+    fn receive_error(z: Controller, code: u8, by: u8) -> Stepped {
+        access::receive_error(z, code, by)
+    }
 }
 
-pub(crate) fn write(on_lent: bool, z: Controller, offset: u16, word: u32) -> Stepped {
-    if on_lent {
-        return lent::write(z, offset, word);
+impl Calls for Lent {
+    fn hardware_reset(z: Controller) -> Stepped {
+        lent::hardware_reset(z)
     }
-    access::write(z, offset, word)
-}
 
-pub(crate) fn idle(on_lent: bool, z: Controller) -> Stepped {
-    if on_lent {
-        return lent::idle(z);
+    fn read(z: Controller, offset: u16) -> Stepped {
+        lent::read(z, offset)
     }
-    access::idle(z)
-}
 
-pub(crate) fn bit_times(on_lent: bool, z: Controller, n: u16) -> Stepped {
-    if on_lent {
-        return lent::bit_times(z, n);
+    fn write(z: Controller, offset: u16, word: u32) -> Stepped {
+        lent::write(z, offset, word)
     }
-    access::bit_times(z, n)
-}
 
-pub(crate) fn activity(on_lent: bool, z: Controller) -> Stepped {
-    if on_lent {
-        return lent::activity(z);
+    fn idle(z: Controller) -> Stepped {
+        lent::idle(z)
     }
-    access::activity(z)
-}
 
-pub(crate) fn start(on_lent: bool, z: Controller) -> Stepped {
-    if on_lent {
-        return lent::start(z);
+    fn bit_times(z: Controller, n: u16) -> Stepped {
+        lent::bit_times(z, n)
     }
-    access::start(z)
-}
 
-pub(crate) fn outcome(on_lent: bool, z: Controller, res: u8) -> Stepped {
-    if on_lent {
-        return lent::outcome(z, res);
+    fn activity(z: Controller) -> Stepped {
+        lent::activity(z)
     }
-    access::outcome(z, res)
-}
 
-pub(crate) fn frame_received(on_lent: bool, z: Controller, x: Frame) -> Stepped {
-    if on_lent {
-        return lent::frame_received(z, x);
+    fn start(z: Controller) -> Stepped {
+        lent::start(z)
     }
-    access::frame_received(z, x)
-}
 
-pub(crate) fn receive_error(on_lent: bool, z: Controller, code: u8, by: u8) -> Stepped {
-    if on_lent {
-        return lent::receive_error(z, code, by);
+    fn outcome(z: Controller, res: u8) -> Stepped {
+        lent::outcome(z, res)
     }
-    access::receive_error(z, code, by)
+
+    fn frame_received(z: Controller, x: Frame) -> Stepped {
+        lent::frame_received(z, x)
+    }
+
+    fn receive_error(z: Controller, code: u8, by: u8) -> Stepped {
+        lent::receive_error(z, code, by)
+    }
 }

@@ -2,142 +2,121 @@
 // it is and what came out.
 #![tactic(auto)]
 
-use model::{Controller, Errors, Fifo, Filters, Frame};
+use calls::{ByValue, Calls, Lent};
+use model::{Bank, Controller, Core, Errors, Fifo, Filters, Frame};
+use std::io;
+use std::io::Print;
 
 mod calls;
 
-const STDOUT_FILENO: i32 = 1;
-
-fn say(text: &[u8]) {
-    io::write_all(STDOUT_FILENO, text);
+fn wrote<C: Calls>(z: Controller, offset: u16, w: u32) -> Controller {
+    C::write(z, offset, w).controller
 }
 
-fn number(n: u32) {
-    say(b" ");
-    io::print_decimal(STDOUT_FILENO, n as u64);
+fn reads<C: Calls>(z: Controller, offset: u16) -> u32 {
+    C::read(z, offset).word
 }
 
-fn word(n: u32) {
-    say(b" ");
-    io::print_hex(STDOUT_FILENO, n as u64, 8);
+fn idled<C: Calls>(z: Controller) -> Controller {
+    C::idle(z).controller
 }
 
-fn end() {
-    say(b"\n");
-}
-
-fn wrote(l: bool, z: Controller, offset: u16, w: u32) -> Controller {
-    let a = calls::write(l, z, offset, w);
-    a.controller
-}
-
-fn reads(l: bool, z: Controller, offset: u16) -> u32 {
-    let a = calls::read(l, z, offset);
-    a.word
-}
-
-fn idled(l: bool, z: Controller) -> Controller {
-    let a = calls::idle(l, z);
-    a.controller
+fn received<C: Calls>(z: Controller, x: Frame) -> Controller {
+    C::frame_received(z, x).controller
 }
 
 // Into Normal, the low bits of MCR being m.
-fn normal(l: bool, z: Controller, m: u32) -> Controller {
-    idled(l, wrote(l, z, 0x000, m))
+fn normal<C: Calls>(z: Controller, m: u32) -> Controller {
+    idled::<C>(wrote::<C>(z, 0x000, m))
 }
 
 // Bank 0 takes every frame.
-fn listening(l: bool, m: u32) -> Controller {
-    normal(
-        l,
-        wrote(l, wrote(l, controller::reset(), 0x21C, 1), 0x200, 0),
-        m,
-    )
+fn listening<C: Calls>(m: u32) -> Controller {
+    let z = wrote::<C>(controller::reset(), 0x21C, 1);
+    normal::<C>(wrote::<C>(z, 0x200, 0), m)
 }
 
 fn with_counters(z: Controller, tec: u16, rec: u8) -> Controller {
-    let mut c = z.core;
-    let e = Errors {
-        tec: tec,
-        rec: rec,
-        lec: 0,
-    };
-    c.errors = e;
-    let banks = z.banks;
+    let errors = Errors { tec, rec, lec: 0 };
     Controller {
-        core: c,
-        banks: banks,
+        core: Core { errors, ..z.core },
+        ..z
     }
 }
 
 fn frame(identifier: u32, low: u32) -> Frame {
     Frame {
-        identifier: identifier,
-        low: low,
+        identifier,
+        low,
         high: 0,
         length: 1,
     }
 }
 
-fn received(l: bool, z: Controller, x: Frame) -> Controller {
-    let a = calls::frame_received(l, z, x);
-    a.controller
+// ---- what is printed
+
+fn error_ends<C: Calls>(rt: &impl Print, tec: u16) -> io::Result<()> {
+    let z = wrote::<C>(normal::<C>(controller::reset(), 0), 0x180, 1);
+    let on = C::start(z).controller;
+    let ended = C::outcome(with_counters(on, tec, 0), 1).controller;
+    let esr = reads::<C>(ended, 0x018);
+    println!(rt;
+        "TEC {tec} and an error, TEC and BOFF: {} {}",
+        esr / 65536 % 256,
+        esr / 4 % 2
+    )
 }
 
-fn error_ends(l: bool, tec: u16) {
-    let z = wrote(l, normal(l, controller::reset(), 0), 0x180, 1);
-    let a = calls::start(l, z);
-    let on = a.controller;
-    let b = calls::outcome(l, with_counters(on, tec, 0), 1);
-    let esr = reads(l, b.controller, 0x018);
-    number(esr / 65536 % 256);
-    number(esr / 4 % 2);
-    end();
+fn frame_comes<C: Calls>(rt: &impl Print, rec: u8) -> io::Result<()> {
+    let z = received::<C>(with_counters(listening::<C>(0), 0, rec), frame(0, 0));
+    println!(rt;
+        "REC {rec} and a frame: {}",
+        reads::<C>(z, 0x018) / 16777216
+    )
 }
 
-fn frame_comes(l: bool, rec: u8) {
-    let z = received(l, with_counters(listening(l, 0), 0, rec), frame(0, 0));
-    number(reads(l, z, 0x018) / 16777216);
-    end();
+fn error_comes<C: Calls>(rt: &impl Print, rec: u8) -> io::Result<()> {
+    let z = C::receive_error(with_counters(listening::<C>(0), 0, rec), 1, 8).controller;
+    println!(rt;
+        "REC {rec} and a receive error of 8: {}",
+        reads::<C>(z, 0x018) / 16777216
+    )
 }
 
-fn ticks(l: bool, n: u16) {
-    let a = calls::bit_times(l, normal(l, controller::reset(), 0x80), 65535);
-    let b = calls::bit_times(l, a.controller, n);
-    let z = b.controller;
-    let c = z.core;
-    let k = c.control;
-    number(k.timer as u32);
-    end();
+fn wakes<C: Calls>(rt: &impl Print) -> io::Result<()> {
+    let z = C::activity(controller::reset()).controller;
+    println!(rt; "activity in Sleep, WKUI: {}", reads::<C>(z, 0x004) / 8 % 2)
 }
 
-fn starts_first(l: bool, x: u32, y: u32) {
-    let z = wrote(
-        l,
-        wrote(l, normal(l, controller::reset(), 0), 0x180, x),
-        0x190,
-        y,
+fn ticks<C: Calls>(rt: &impl Print, n: u16) -> io::Result<()> {
+    let z = C::bit_times(normal::<C>(controller::reset(), 0x80), 65535).controller;
+    let later = C::bit_times(z, n).controller;
+    println!(rt; "timer 65535 plus {n}: {}", later.core.control.timer)
+}
+
+// The mailbox that starts first, of mailbox 0 with identifier word x and mailbox 1 with y.
+fn first_started<C: Calls>(x: u32, y: u32) -> u32 {
+    let z = wrote::<C>(normal::<C>(controller::reset(), 0), 0x180, x);
+    C::start(wrote::<C>(z, 0x190, y)).word
+}
+
+fn four_frames<C: Calls>(rt: &impl Print, m: u32) -> io::Result<()> {
+    let mut z = listening::<C>(m);
+    for low in [0xA, 0xB, 0xC, 0xD] {
+        z = received::<C>(z, frame(0, low));
+    }
+    let second = wrote::<C>(z, 0x00C, 0x20);
+    let third = wrote::<C>(second, 0x00C, 0x20);
+    let (a, b, c) = (
+        reads::<C>(z, 0x1B8),
+        reads::<C>(second, 0x1B8),
+        reads::<C>(third, 0x1B8),
     );
-    let a = calls::start(l, z);
-    number(a.word);
+    let how = if m == 0 { "unlocked" } else { "locked" };
+    println!(rt; "frames 10, 11, 12, then 13, {how}: {a} {b} {c}")
 }
 
-fn four_frames(l: bool, m: u32) {
-    let a = received(
-        l,
-        received(l, listening(l, m), frame(0, 0xA)),
-        frame(0, 0xB),
-    );
-    let b = received(l, received(l, a, frame(0, 0xC)), frame(0, 0xD));
-    let c = wrote(l, b, 0x00C, 0x20);
-    let d = wrote(l, c, 0x00C, 0x20);
-    number(reads(l, b, 0x1B8));
-    number(reads(l, c, 0x1B8));
-    number(reads(l, d, 0x1B8));
-    end();
-}
-
-fn numbering(l: bool) {
+fn numbering<C: Calls>(rt: &impl Print) -> io::Result<()> {
     let g = Filters {
         mode: 0x3FFF,
         scale: 0,
@@ -145,93 +124,73 @@ fn numbering(l: bool) {
         activation: 0,
         finit: false,
     };
-    let first = filter::first_number(g, Fifo::F0, model::Bank(13));
-    number(first.0 as u32);
-    let a = wrote(
-        l,
-        wrote(l, controller::reset(), 0x204, 0x3FFF),
-        0x2AC,
-        0x00200000,
-    );
-    let b = normal(l, wrote(l, wrote(l, a, 0x21C, 0x3FFF), 0x200, 0), 0);
-    let z = received(l, b, frame(0x00200000, 0));
-    number(reads(l, z, 0x1B4) / 256 % 256);
-    end();
+    let first = filter::first_number(g, Fifo::F0, Bank(13));
+    let a = wrote::<C>(controller::reset(), 0x204, 0x3FFF);
+    let b = wrote::<C>(wrote::<C>(a, 0x2AC, 0x00200000), 0x21C, 0x3FFF);
+    let c = normal::<C>(wrote::<C>(b, 0x200, 0), 0);
+    let z = received::<C>(c, frame(0x00200000, 0));
+    let last = reads::<C>(z, 0x1B4) / 256 % 256;
+    println!(rt;
+        "16-bit lists in all banks, first number of bank 13 and the last: {} {last}",
+        first.0
+    )
 }
 
-fn idles(l: bool, n: u32) {
-    let mut z = with_counters(normal(l, controller::reset(), 0x40), 256, 0);
-    for i in 0..n {
-        z = idled(l, z);
+// BOFF after so many idle events with ABOM.
+fn bus_off_after<C: Calls>(n: u32) -> u32 {
+    let mut z = with_counters(normal::<C>(controller::reset(), 0x40), 256, 0);
+    for _ in 0..n {
+        z = idled::<C>(z);
     }
-    number(reads(l, z, 0x018) / 4 % 2);
+    reads::<C>(z, 0x018) / 4 % 2
 }
 
-fn error_comes(l: bool, rec: u8) {
-    let a = calls::receive_error(l, with_counters(listening(l, 0), 0, rec), 1, 8);
-    number(reads(l, a.controller, 0x018) / 16777216);
-    end();
+fn resets<C: Calls>(rt: &impl Print) -> io::Result<()> {
+    let z = C::hardware_reset(normal::<C>(controller::reset(), 0)).controller;
+    print!(rt; "MCR, MSR, TSR, BTR, FMR after hardware reset:")?;
+    for offset in [0x000, 0x004, 0x008, 0x01C, 0x200] {
+        print!(rt; " {:08x}", reads::<C>(z, offset))?;
+    }
+    println!(rt)
 }
 
-fn wakes(l: bool) {
-    let a = calls::activity(l, controller::reset());
-    number(reads(l, a.controller, 0x004) / 8 % 2);
-    end();
+fn numbers<C: Calls>(rt: &impl Print) -> io::Result<()> {
+    error_ends::<C>(rt, 247)?;
+    error_ends::<C>(rt, 248)?;
+    frame_comes::<C>(rt, 129)?;
+    frame_comes::<C>(rt, 128)?;
+    error_comes::<C>(rt, 250)?;
+    wakes::<C>(rt)?;
+    ticks::<C>(rt, 1)?;
+    ticks::<C>(rt, 65535)?;
+    let standard_first = first_started::<C>(0x20000001, 0x20000005);
+    let standard_second = first_started::<C>(0x20000005, 0x20000001);
+    println!(rt;
+        "first of standard 0x100 and extended 0x04000000, then the other way round: {standard_first} {standard_second}"
+    )?;
+    let extended_first = first_started::<C>(0x00200005, 0x00400001);
+    let extended_second = first_started::<C>(0x00400001, 0x00200005);
+    println!(rt;
+        "first of extended 0x00040000 and standard 0x002, then the other way round: {extended_first} {extended_second}"
+    )?;
+    four_frames::<C>(rt, 0x00)?;
+    four_frames::<C>(rt, 0x08)?;
+    numbering::<C>(rt)?;
+    println!(rt;
+        "BOFF after 127 and after 128 idle events with ABOM: {} {}",
+        bus_off_after::<C>(127),
+        bus_off_after::<C>(128)
+    )?;
+    resets::<C>(rt)
 }
 
-fn resets(l: bool) {
-    let a = calls::hardware_reset(l, normal(l, controller::reset(), 0));
-    let z = a.controller;
-    word(reads(l, z, 0x000));
-    word(reads(l, z, 0x004));
-    word(reads(l, z, 0x008));
-    word(reads(l, z, 0x01C));
-    word(reads(l, z, 0x200));
-    end();
+fn both(rt: &impl Print) -> io::Result<()> {
+    numbers::<ByValue>(rt)?;
+    println!(rt; "The same on a lent controller:")?;
+    numbers::<Lent>(rt)
 }
 
-// On a lent controller where l, else by value.
-fn numbers(l: bool) {
-    say(b"TEC 247 and an error, TEC and BOFF:");
-    error_ends(l, 247);
-    say(b"TEC 248 and an error, TEC and BOFF:");
-    error_ends(l, 248);
-    say(b"REC 129 and a frame:");
-    frame_comes(l, 129);
-    say(b"REC 128 and a frame:");
-    frame_comes(l, 128);
-    say(b"REC 250 and a receive error of 8:");
-    error_comes(l, 250);
-    say(b"activity in Sleep, WKUI:");
-    wakes(l);
-    say(b"timer 65535 plus 1:");
-    ticks(l, 1);
-    say(b"timer 65535 plus 65535:");
-    ticks(l, 65535);
-    say(b"first of standard 0x100 and extended 0x04000000, then the other way round:");
-    starts_first(l, 0x20000001, 0x20000005);
-    starts_first(l, 0x20000005, 0x20000001);
-    end();
-    say(b"first of extended 0x00040000 and standard 0x002, then the other way round:");
-    starts_first(l, 0x00200005, 0x00400001);
-    starts_first(l, 0x00400001, 0x00200005);
-    end();
-    say(b"frames 10, 11, 12, then 13, unlocked:");
-    four_frames(l, 0x00);
-    say(b"frames 10, 11, 12, then 13, locked:");
-    four_frames(l, 0x08);
-    say(b"16-bit lists in all banks, first number of bank 13 and the last:");
-    numbering(l);
-    say(b"BOFF after 127 and after 128 idle events with ABOM:");
-    idles(l, 127);
-    idles(l, 128);
-    end();
-    say(b"MCR, MSR, TSR, BTR, FMR after hardware reset:");
-    resets(l);
-}
-
-fn main() {
-    numbers(false);
-    say(b"The same on a lent controller:\n");
-    numbers(true);
+// Output that can't be written is lost, and there is nobody to tell.
+fn main(rt: HostRuntime) {
+    let _ = both(&rt);
 }
