@@ -12,40 +12,38 @@ use Rattle.model.specs.declared.Mailbox.{Mailbox}
 use Rattle.model.specs.declared.Step as steps
 use Rattle.model.specs.declared.Step.TheVariants.{Reset, Read, Write, Idle, BitTimes, Activity, Start, Outcome, Receive, ReceiveError}
 use Rattle.filter.specs.Compared.{compared}
-use Rattle.comparisons.specs.declared.searches.Searched.{Searched}
-use Rattle.comparisons.specs.declared.searches.Searched.TheVariants.{Word, Nothing}
 
 -- its number: the word, if there is a search
-abbrev pub searched_numbers : Searched → List ℕ
-searched_numbers (Word w) = w ∷ []
-searched_numbers Nothing = []
+abbrev pub searched_numbers : Option ℕ → List ℕ
+searched_numbers (Some w) = w ∷ []
+searched_numbers None = []
 
 -- the frame of the mailbox on the wire ended with result r. Document 01, "Bus events", own end: "Good: .. with LBKM=1 and FINIT=0 the
 -- frame also passes the filters"; "Order, filters, storage": "EXID of a standard mailbox is .. sent as 0"
-unfoldable pub looped_word : Option Mailbox → Core → ℕ → Searched
-looped_word None c r = Nothing
+unfoldable pub looped_word : Option Mailbox → Core → ℕ → Option ℕ
+looped_word None c r = None
 looped_word (Some m) c r =
     pick (r == 0 && lbkm c.control && not c.filters.finit)
-    (Word (sent_frame (at c.transmit.mailboxes m)).identifier)
-    Nothing
+    (Some (sent_frame (at c.transmit.mailboxes m)).identifier)
+    None
 
 -- an accepted step. Document 01, "Bus events", frame: "filter; store"; "Order, filters, storage": "A frame's 32-bit word is its
 -- identifier word as in RI"
-unfoldable pub accepted_word : Core → steps.Step → Searched
-accepted_word c Reset = Nothing
-accepted_word c (Read o) = Nothing
-accepted_word c (Write o w) = Nothing
-accepted_word c Idle = Nothing
-accepted_word c (BitTimes n) = Nothing
-accepted_word c Activity = Nothing
-accepted_word c Start = Nothing
+unfoldable pub accepted_word : Core → steps.Step → Option ℕ
+accepted_word c Reset = None
+accepted_word c (Read o) = None
+accepted_word c (Write o w) = None
+accepted_word c Idle = None
+accepted_word c (BitTimes n) = None
+accepted_word c Activity = None
+accepted_word c Start = None
 accepted_word c (Outcome r) = looped_word c.transmit.queue.transmitting c r
-accepted_word c (Receive x) = Word x.identifier
-accepted_word c (ReceiveError k n) = Nothing
+accepted_word c (Receive x) = Some x.identifier
+accepted_word c (ReceiveError k n) = None
 
 -- a step that is refused changes nothing. Document 01, "Refusal numbers": "Any other code: .. state unchanged"
-unfoldable pub searched_word : Core → steps.Step → ℕ → Searched
-searched_word c e code = pick (code == 0) (accepted_word c e) Nothing
+unfoldable pub searched_word : Core → steps.Step → ℕ → Option ℕ
+searched_word c e code = pick (code == 0) (accepted_word c e) None
 
 -- an accepted frame and the good end of a frame in loopback are searched for, and nothing else
 pub record Searching (c : Core) : Type 0 where

@@ -2,26 +2,21 @@
 // on standard input, in pieces, the text goes to standard output. With --lesson it must open with the record of a hardware reset.
 #![tactic(auto)]
 
-use account::faults::Fault;
-use bits::least;
-use command_line::Asked;
-use model::{Controller, Reading, Step};
-use searches::Searched;
+use arrayvec::ArrayVec;
+use command_line::ArgumentsError;
+use model::{Controller, Refusal, Step};
 use std::env::Env;
-use std::io::Read;
-use stream::Input;
+use std::io::{Stderr, Stdin, Stdout};
+use std::ops::ControlFlow;
+use stream::{Input, Source};
 use text::Line;
 
 mod searches; // which steps search the filters, and what that compares
 
-const STDOUT_FILENO: i32 = 1;
-
-const STDERR_FILENO: i32 = 2;
-
 // No record has more bytes.
 const LONGEST_RECORD: usize = 16;
 
-// Past this the text goes out, so that a line always has room for two numbers more.
+// Past this the text goes out, so that there is always room for a line and the last one.
 const ENOUGH_TEXT: usize = 400;
 
 const COLUMN: usize = 11;
@@ -29,7 +24,7 @@ const COLUMN: usize = 11;
 // ---- what is counted
 
 // The records so far and the bytes that they take; the searches, the filters compared in all of them, the most in one.
-#[derive(Clone, Copy)]
+#[derive(Clone, Copy, Default)]
 struct Counts {
     records: u64,
     bytes: u64,
@@ -38,31 +33,17 @@ struct Counts {
     most: u64,
 }
 
-fn no_counts() -> Counts {
-    Counts {
-        records: 0,
-        bytes: 0,
-        searches: 0,
-        compared: 0,
-        most: 0,
+impl Counts {
+    fn record(&mut self, length: usize) {
+        self.records = self.records.wrapping_add(1);
+        self.bytes = self.bytes.wrapping_add(length as u64);
     }
-}
 
-fn with_record(n: Counts, length: usize) -> Counts {
-    let mut m = n;
-    m.records = std::num::wrapping_add_u64(n.records, 1);
-    m.bytes = std::num::wrapping_add_u64(n.bytes, length as u64);
-    m
-}
-
-fn with_search(n: Counts, compared: u64) -> Counts {
-    let mut m = n;
-    m.searches = std::num::wrapping_add_u64(n.searches, 1);
-    m.compared = std::num::wrapping_add_u64(n.compared, compared);
-    if n.most < compared {
-        m.most = compared;
+    fn search(&mut self, compared: u64) {
+        self.searches = self.searches.wrapping_add(1);
+        self.compared = self.compared.wrapping_add(compared);
+        self.most = self.most.max(compared);
     }
-    m
 }
 
 // ---- text
@@ -71,202 +52,153 @@ fn head() -> Line {
     Line::empty().put(b"     record   compared\n")
 }
 
-fn with_row(l: Line, record: u64, compared: u64) -> Line {
-    let a = l.right(record, COLUMN).right(compared, COLUMN);
-    a.byte(b'\n')
+fn row(record: u64, compared: u64) -> Line {
+    Line::empty()
+        .right(record, COLUMN)
+        .right(compared, COLUMN)
+        .byte(b'\n')
 }
 
-fn with_last(l: Line, n: Counts) -> Line {
-    let a = l.said(b"% searches, ", 0, n.searches);
-    let b = a.said(b"% filters compared, ", 0, n.compared);
-    b.said(b"% at most\n", 0, n.most)
-}
-
-fn complain(text: &[u8]) {
-    io::write_all(STDERR_FILENO, text);
-}
-
-// The first n bytes go to an open file; whether that went well.
-fn sent_first(text: &[u8], n: usize, file: i32) -> bool {
-    let k = least(n, text.len());
-    io::write_all(file, &text[0..k])
-}
-
-fn sent(l: Line, file: i32) -> bool {
-    let bytes = l.bytes;
-    sent_first(&bytes, l.at, file)
+fn last_line(n: Counts) -> Line {
+    Line::empty()
+        .said(b"% searches, ", 0, n.searches)
+        .said(b"% filters compared, ", 0, n.compared)
+        .said(b"% at most\n", 0, n.most)
 }
 
 // ---- a turn of the loop
 
 // The text waits to go out; a lesson's opening is read, or none is asked for.
-#[derive(Clone, Copy)]
+#[derive(Drop)]
 struct Session {
     controller: Controller,
-    input: Input,
+    input: Input<65536>,
     counts: Counts,
-    text: Line,
+    waiting: ArrayVec<u8, 512>,
     opened: bool,
-    going: bool,
+    stdin: Stdin,
+    stdout: Stdout,
+    stderr: Stderr,
 }
 
-fn begun(lesson: bool, going: bool) -> Session {
-    Session {
-        controller: controller::reset(),
-        input: stream::nothing_read(),
-        counts: no_counts(),
-        text: head(),
-        opened: !lesson,
-        going: going,
-    }
-}
-
-fn flushed(s: Session) -> Session {
-    let ok = sent(s.text, STDOUT_FILENO);
-    if !ok {
-        complain(b"comparisons: standard output can't be written, the rest is lost\n");
-    }
-    let mut t = s;
-    t.text = Line::empty();
-    t.going = s.going & ok;
-    t
-}
-
-fn flushed_if(b: bool, s: Session) -> Session {
-    if b {
-        return flushed(s);
-    }
-    s
-}
-
-fn read_on<R: Read>(s: Session, reader: &mut R, space: &mut [u8]) -> Session {
-    let i = stream::read_on(s.input, reader, space);
-    if i.failed {
-        complain(b"comparisons: standard input can't be read\n");
-    }
-    let mut t = s;
-    t.input = i;
-    t
-}
-
-fn ended(s: Session) -> Session {
-    let mut t = s;
-    t.text = with_last(s.text, s.counts);
-    t.going = false;
-    t
-}
-
-// A record that can't be read; where reading failed the script may just break off inside it.
-fn unread(s: Session, f: Fault) -> Session {
-    let i = s.input;
-    let n = s.counts;
-    if !(i.failed & (f.code == 6)) {
-        let record = std::num::wrapping_add_u64(n.records, 1);
-        sent(
-            wording::complaint(b"comparisons", record, n.bytes, f),
-            STDERR_FILENO,
-        );
-    }
-    ended(s)
-}
-
-// The step of a record of so many bytes.
-fn stepped(s: Session, e: Step, length: usize) -> Session {
-    let z = s.controller;
-    let c = z.core;
-    let a = controller::step(z, e);
-    let next = a.controller;
-    let n = with_record(s.counts, length);
-    let mut t = s;
-    t.controller = next;
-    t.input = stream::passed(s.input, length);
-    t.counts = n;
-    let x = searches::searched_word(c, e, a.code);
-    match x {
-        Searched::Word(w) => {
-            let compared = searches::compared_of(z, w) as u64;
-            t.counts = with_search(n, compared);
-            t.text = with_row(s.text, n.records, compared);
-            flushed_if(ENOUGH_TEXT < t.text.at, t)
+impl Session {
+    fn begun(rt: &HostRuntime, lesson: bool) -> Self {
+        Self {
+            controller: controller::reset(),
+            input: Input::new(),
+            counts: Counts::default(),
+            waiting: ArrayVec::new(),
+            opened: !lesson,
+            stdin: rt.stdin(),
+            stdout: rt.stdout(),
+            stderr: rt.stderr(),
         }
-        Searched::Nothing => t,
     }
-}
 
-fn is_reset(x: Reading) -> bool {
-    match x {
-        Reading::Found(e, _) => match e {
-            Step::Reset => true,
-            _ => false,
-        },
-        _ => false,
-    }
-}
-
-// A lesson that begins with other bytes.
-fn unopened(s: Session, rest: &[u8]) -> Session {
-    sent(
-        wording::unopened_complaint(b"comparisons", rest),
-        STDERR_FILENO,
-    );
-    ended(s)
-}
-
-fn next_record(s: Session, rest: &[u8]) -> Session {
-    let x = records::reading(rest, 0);
-    if !s.opened & !is_reset(x) {
-        return unopened(s, rest);
-    }
-    let mut t = s;
-    t.opened = true;
-    match x {
-        Reading::End => ended(t),
-        Reading::Malformed(code) => unread(t, account::faults::fault_in(code, rest)),
-        Reading::Found(e, length) => stepped(t, e, length),
-    }
-}
-
-// More is read, with all text sent before that, or the next record is looked at.
-fn round<R: Read>(s: Session, reader: &mut R, space: &mut [u8]) -> Session {
-    let i = s.input;
-    if stream::wants(i, LONGEST_RECORD) {
-        return read_on(flushed(s), reader, space);
-    }
-    let filled = least(i.filled, space.len());
-    let place = least(i.place, filled);
-    next_record(s, &space[place..filled])
-}
-
-// A loop that is proved has to end, and nothing says that the input does: no run uses so many turns up.
-fn run<R: Read>(first: Session, reader: &mut R, space: &mut [u8]) {
-    let mut s = first;
-    for _ in 0..u64::MAX {
-        if !s.going {
-            break;
+    fn flush(&mut self) -> ControlFlow<()> {
+        if stream::send(&mut self.waiting, &mut self.stdout).is_err() {
+            let _ = eprintln!(self.stderr;
+                "comparisons: standard output can't be written, the rest is lost"
+            );
+            return ControlFlow::Break(());
         }
-        s = round(s, reader, space);
+        ControlFlow::Continue(())
     }
-    flushed(s);
+
+    // All text goes out before more is read.
+    fn read_on(&mut self) -> ControlFlow<()> {
+        self.flush()?;
+        if self.input.read_on(&mut self.stdin).is_err() {
+            let _ = eprintln!(self.stderr; "comparisons: standard input can't be read");
+        }
+        ControlFlow::Continue(())
+    }
+
+    fn store(&mut self, l: Line) {
+        let _fits = self.waiting.try_extend_from_slice(l.as_bytes());
+    }
+
+    fn end(&mut self) -> ControlFlow<()> {
+        self.store(last_line(self.counts));
+        ControlFlow::Break(())
+    }
+
+    fn complain(&self, l: Line) {
+        let _ = self.stderr.write_all(l.as_bytes());
+    }
+
+    // A lesson that begins with other bytes than the record of a reset.
+    fn refuse_opening(&mut self) -> ControlFlow<()> {
+        self.complain(wording::unopened_complaint(b"comparisons", self.input.unread()));
+        self.end()
+    }
+
+    // A record that can't be read; where reading failed the script may just break off inside it.
+    fn refuse_record(&mut self, why: Refusal) -> ControlFlow<()> {
+        if why != Refusal::Short || self.input.source() != Source::Failed {
+            let f = account::faults::fault_in(u8::from(why), self.input.unread());
+            let record = self.counts.records.wrapping_add(1);
+            self.complain(wording::complaint(b"comparisons", record, self.counts.bytes, f));
+        }
+        self.end()
+    }
+
+    // The step of a record of so many bytes.
+    fn step(&mut self, e: Step, length: usize) -> ControlFlow<()> {
+        let z = self.controller;
+        let a = controller::step(z, e);
+        self.controller = a.controller;
+        self.input.pass(length);
+        self.counts.record(length);
+        if let Some(w) = searches::searched_word(z.core, e, a.code) {
+            let compared = u64::from(searches::compared_of(z, w));
+            self.counts.search(compared);
+            self.store(row(self.counts.records, compared));
+            if ENOUGH_TEXT < self.waiting.len() {
+                return self.flush();
+            }
+        }
+        ControlFlow::Continue(())
+    }
+
+    // More is read, or the next record is looked at.
+    fn turn(&mut self) -> ControlFlow<()> {
+        if self.input.wants(LONGEST_RECORD) {
+            return self.read_on();
+        }
+        let found = records::reading(self.input.unread(), 0);
+        if !self.opened && !matches!(found, Ok(Some((Step::Reset, _)))) {
+            return self.refuse_opening();
+        }
+        self.opened = true;
+        match found {
+            Ok(Some((step, length))) => self.step(step, length),
+            Ok(None) => self.end(),
+            Err(why) => self.refuse_record(why),
+        }
+    }
+
+    fn run(&mut self) {
+        self.store(head());
+        // A proved loop has to end, and nothing says that the input does: no run uses so many turns up.
+        let _ = (0..u64::MAX).try_for_each(|_| self.turn());
+        let _ = self.flush();
+    }
+}
+
+// Whether the script is a lesson.
+fn is_lesson(rt: &impl Env) -> Result<bool, ArgumentsError> {
+    let mut text = [0; 4096];
+    let given = command_line::argument(rt, &mut text);
+    command_line::asked_for(given, &text, b"--lesson")
 }
 
 // Other arguments than --lesson are told, and nothing is read.
-fn arguments(rt: &impl Env) -> Session {
-    let mut text = io::buffer();
-    let given = command_line::arguments(rt, &mut text);
-    match command_line::asked_for(given, &text, b"--lesson") {
-        Asked::Nothing => begun(false, true),
-        Asked::Word => begun(true, true),
-        Asked::Other => {
-            complain(b"usage: comparisons [--lesson]\n");
-            begun(false, false)
-        }
-    }
-}
-
 fn main(rt: HostRuntime) {
-    let mut space = io::large_buffer();
-    let first = arguments(&rt);
-    if first.going {
-        run(first, &mut rt.stdin(), &mut space);
+    match is_lesson(&rt) {
+        Ok(lesson) => Session::begun(&rt, lesson).run(),
+        Err(_) => {
+            let _ = eprintln!(rt; "usage: comparisons [--lesson]");
+        }
     }
 }

@@ -3,19 +3,21 @@
 // repeat is run twice; with --expects items are written, for the program trace: bytes of the script, and what its steps must answer.
 #![tactic(auto)]
 
-use bits::least;
-use command_line::{Asked, Given};
+use arrayvec::ArrayVec;
+use command_line::ArgumentsError;
 use expected::Expected;
 use lines::Meaning;
 use names::scan::{value, word_at};
 use std::env::Env;
-use std::io::Read;
+use std::io::{Stderr, Stdin, Stdout};
+use std::ops::ControlFlow;
+use stream::{Input, Source};
 
 mod say; // what is said on standard error
 
-const STDOUT_FILENO: i32 = 1;
-
 const LONGEST_LINE: usize = 1000;
+
+const LONGEST_RECORD: usize = 16;
 
 const DEEPEST: usize = 8;
 
@@ -26,326 +28,272 @@ const LONGEST_REPEAT: usize = 60000;
 const ENOUGH: usize = 64000;
 
 // An item has a tag, the length of its body in two bytes, and the body; numbers have their low byte first.
-const HEAD: usize = 3;
+const SCRIPT: u8 = 1;
 
-const SCRIPT: u64 = 1;
+const EXPECTATION: u8 = 2;
 
-const EXPECTATION: u64 = 2;
+// What is written: the script, nothing, or items.
+#[derive(Clone, Copy, PartialEq, Eq)]
+enum Mode {
+    Script,
+    Check,
+    Items,
+}
 
-// The next line is at `place` of the space, which is filled up to another and is needed from `base` on: there the lines of the
-// outermost open repeat begin. `lines` have been read before. Of each open repeat: where its lines begin, behind the base; the
-// number of its own line; the turns that are left, this one with them. A repeat of no turns is silent, with all that is in it.
-// So many bytes wait to go out, each line's behind a head of so many.
-#[derive(Clone, Copy)]
-struct Progress {
+// A repeat that is open: where its lines begin, behind the first line of the outermost one; the number of its own line; the turns
+// that are left, this one with them.
+#[derive(Clone, Copy, Default)]
+struct Repeat {
+    start: usize,
+    line: u64,
+    left: u32,
+}
+
+// The next line is at `place` of what is unread, of which the lines of the outermost open repeat are the front. `lines` have been read
+// before. A repeat of no turns is silent, with all that is in it: so many repeats were open with it. The bytes wait to go out.
+#[derive(Drop)]
+struct Session {
+    mode: Mode,
     place: usize,
-    filled: usize,
-    ended: bool,
     lines: u64,
-    open: usize,
-    base: usize,
-    starts: [usize; DEEPEST],
-    numbers: [u64; DEEPEST],
-    left: [u32; DEEPEST],
-    silent: usize,
-    waiting: usize,
-    head: usize,
-    checks: bool,
-    going: bool,
+    open: ArrayVec<Repeat, DEEPEST>,
+    silent: Option<usize>,
+    waiting: ArrayVec<u8, 65536>,
+    stdin: Stdin,
+    stdout: Stdout,
+    stderr: Stderr,
 }
 
-// ---- input and output
-
-fn flushed(p: Progress, out: &[u8]) -> Progress {
-    let n = least(p.waiting, out.len());
-    let ok = io::write_all(STDOUT_FILENO, &out[0..n]);
-    if !ok {
-        say::say(b"lesson_write: standard output can't be written, the rest is lost\n");
-    }
-    let mut q = p;
-    q.waiting = 0;
-    q.going = p.going & ok;
-    q
-}
-
-fn read_on<R: Read>(p: Progress, reader: &mut R, space: &mut [u8]) -> Progress {
-    if !p.going {
-        return p;
-    }
-    let f = stream::refilled(reader, space, p.base, p.filled);
-    if f.failed {
-        say::say(b"lesson_write: standard input can't be read\n");
-    }
-    let mut q = p;
-    q.place = std::num::wrapping_sub_usize(p.place, p.base);
-    q.base = 0;
-    q.filled = f.length;
-    q.ended = f.ended;
-    q.going = !f.failed;
-    q
-}
-
-fn set(space: &mut [u8], i: usize, b: u8) {
-    if i < space.len() {
-        space[i] = b;
-    }
-}
-
-// A number in so many bytes from a place on.
-fn put(space: &mut [u8], at: usize, n: u64, count: usize) {
-    let mut rest = n;
-    for k in 0..count {
-        set(
-            space,
-            std::num::wrapping_add_usize(at, k),
-            (rest % 256) as u8,
-        );
-        rest = rest / 256;
-    }
-}
-
-// ---- what a line gives
-
-// The pairs of digits from a place of a line on, up to its comment, as bytes, and how many they are. What stands between them is
-// set too, and counted over.
-fn unhexed(line: &[u8], from: usize, space: &mut [u8]) -> usize {
-    let mut n: usize = 0;
+// The pairs of digits from a place of a line on, up to its comment, as bytes.
+fn unhexed(line: &[u8], from: usize) -> ArrayVec<u8, LONGEST_LINE> {
+    let mut bytes = ArrayVec::new();
     let mut first = false;
     for i in from..line.len() {
         if line[i] == b'#' {
-            return n;
+            break;
         }
-        let pair = value(line, i, std::num::wrapping_add_usize(i, 2), true);
-        first = !first & (pair < 256);
-        set(space, n, (pair % 256) as u8);
-        n = std::num::wrapping_add_usize(n, first as usize);
-    }
-    n
-}
-
-// The bytes of a script that a line is.
-fn script(m: Meaning, line: &[u8], space: &mut [u8]) -> usize {
-    match m {
-        Meaning::Step(e) => {
-            let w = writer::write_record(e, space);
-            w.bytes
+        let pair = value(line, i, i.wrapping_add(2), true);
+        first = !first && pair < 256;
+        if first {
+            let _fits = bytes.try_push((pair % 256) as u8);
         }
-        Meaning::Bytes(place) => unhexed(line, place, space),
-        _ => 0,
     }
-}
-
-fn written(p: Progress, m: Meaning, line: &[u8], out: &mut [u8]) -> Progress {
-    if p.checks | (p.silent != 0) {
-        return p;
-    }
-    let from = least(std::num::wrapping_add_usize(p.waiting, p.head), out.len());
-    let n = script(m, line, &mut out[from..]);
-    if n == 0 {
-        return p;
-    }
-    put(out, p.waiting, SCRIPT + 256 * (n as u64 % 65536), p.head);
-    let mut q = p;
-    q.waiting = std::num::wrapping_add_usize(from, n);
-    q
-}
-
-// The number of its line in eight bytes; whether code and word are expected, code, word in four bytes, whether lines are, lines.
-fn expected(p: Progress, x: Expected, out: &mut [u8]) -> Progress {
-    if (p.head == 0) | p.checks | (p.silent != 0) {
-        return p;
-    }
-    let from = std::num::wrapping_add_usize(p.waiting, HEAD);
-    let answer = bits::one(x.answered) as u64 + 256 * (x.code as u64) + 65536 * (x.word as u64);
-    let lines = bits::one(x.lined) as u64 + 256 * (x.lines as u64);
-    put(out, p.waiting, EXPECTATION + 256 * 16, HEAD);
-    put(out, from, p.lines, 8);
-    put(out, std::num::wrapping_add_usize(from, 8), answer, 6);
-    put(out, std::num::wrapping_add_usize(from, 14), lines, 2);
-    let mut q = p;
-    q.waiting = std::num::wrapping_add_usize(from, 16);
-    q
-}
-
-// ---- repeats
-
-fn faulty(p: Progress, line: &[u8], place: usize, rule: u32, n: u64) -> Progress {
-    say::fault(p.lines, line, place, rule, n);
-    let mut q = p;
-    q.going = false;
-    q
-}
-
-// A line that doesn't go with those before it.
-fn misplaced(p: Progress, line: &[u8], rule: u32) -> Progress {
-    let w = word_at(line, 0);
-    let numbers = p.numbers;
-    faulty(p, line, w.from, rule, numbers[0])
-}
-
-fn opened(p: Progress, n: u32, line: &[u8]) -> Progress {
-    let k = p.open;
-    if DEEPEST <= k {
-        return misplaced(p, line, say::TOO_DEEP);
-    }
-    let once = p.checks | (p.silent != 0) | (n == 0);
-    let mut q = p;
-    q.open = k + 1;
-    q.starts[k] = std::num::wrapping_sub_usize(p.place, p.base);
-    q.numbers[k] = p.lines;
-    q.left[k] = bits::pick(once, 1, n);
-    if (n == 0) & (p.silent == 0) {
-        q.silent = k + 1;
-    }
-    q
-}
-
-// Back to the first line of the repeat, or on.
-fn closed(p: Progress, line: &[u8]) -> Progress {
-    let k = std::num::wrapping_sub_usize(p.open, 1);
-    if DEEPEST <= k {
-        return misplaced(p, line, say::NO_REPEAT);
-    }
-    let left = p.left[k];
-    let mut q = p;
-    if 1 < left {
-        q.left[k] = left - 1;
-        q.place = std::num::wrapping_add_usize(p.base, p.starts[k]);
-        q.lines = p.numbers[k];
-        return q;
-    }
-    q.open = k;
-    if p.silent == p.open {
-        q.silent = 0;
-    }
-    q
-}
-
-// ---- lines
-
-fn with_meaning(p: Progress, m: Meaning, line: &[u8], out: &mut [u8]) -> Progress {
-    match m {
-        Meaning::Expect(x) => expected(p, x, out),
-        Meaning::Repeat(n) => opened(p, n, line),
-        Meaning::Done => closed(p, line),
-        Meaning::Bad(f) => faulty(p, line, f.place, f.rule, f.number as u64),
-        _ => written(p, m, line, out),
-    }
-}
-
-fn with_line(p: Progress, line: &[u8], out: &mut [u8]) -> Progress {
-    let length = std::num::wrapping_add_usize(line.len(), 1);
-    let mut q = p;
-    q.place = std::num::wrapping_add_usize(p.place, length);
-    q.lines = std::num::wrapping_add_u64(p.lines, 1);
-    if p.open == 0 {
-        q.base = q.place;
-    }
-    let r = with_meaning(q, lines::meaning_of(line), line, out);
-    let held = std::num::wrapping_sub_usize(r.place, r.base);
-    if r.going & (r.open != 0) & (LONGEST_REPEAT < held) {
-        return misplaced(r, line, say::TOO_MUCH);
-    }
-    r
-}
-
-// The text ends.
-fn ended(p: Progress) -> Progress {
-    let mut q = p;
-    q.going = false;
-    if p.open != 0 {
-        q.lines = std::num::wrapping_add_u64(p.lines, 1);
-        return misplaced(q, b"", say::NOT_DONE);
-    }
-    q
+    bytes
 }
 
 // Up to the line end, or all; no more than the longest line and one byte.
 fn line_length(rest: &[u8]) -> usize {
-    let n = least(rest.len(), LONGEST_LINE + 1);
-    for i in 0..n {
-        if rest[i] == b'\n' {
-            return i;
-        }
-    }
-    n
+    let most = rest.len().min(LONGEST_LINE + 1);
+    rest[..most]
+        .iter()
+        .position(|b| *b == b'\n')
+        .unwrap_or(most)
 }
 
-// The next line is looked at; where it isn't there as a whole more is read, with all bytes sent before that.
-fn round<R: Read>(p: Progress, reader: &mut R, space: &mut [u8], out: &mut [u8]) -> Progress {
-    if ENOUGH < p.waiting {
-        return flushed(p, out);
+impl Session {
+    fn begun(rt: &HostRuntime, mode: Mode) -> Self {
+        Self {
+            mode,
+            place: 0,
+            lines: 0,
+            open: ArrayVec::new(),
+            silent: None,
+            waiting: ArrayVec::new(),
+            stdin: rt.stdin(),
+            stdout: rt.stdout(),
+            stderr: rt.stderr(),
+        }
     }
-    let filled = least(p.filled, space.len());
-    let place = least(p.place, filled);
-    let rest = &space[place..filled];
-    let n = least(line_length(rest), rest.len());
-    if LONGEST_LINE < n {
-        let mut q = p;
-        q.lines = std::num::wrapping_add_u64(p.lines, 1);
-        return faulty(q, rest, LONGEST_LINE, say::TOO_LONG, 0);
+
+    // ---- input and output
+
+    fn flush(&mut self) -> ControlFlow<()> {
+        if stream::send(&mut self.waiting, &mut self.stdout).is_err() {
+            let _ = eprintln!(self.stderr;
+                "lesson_write: standard output can't be written, the rest is lost"
+            );
+            return ControlFlow::Break(());
+        }
+        ControlFlow::Continue(())
     }
-    if (n < rest.len()) | (p.ended & (0 < n)) {
-        return with_line(p, &rest[0..n], out);
+
+    // All bytes go out before more is read.
+    fn read_on(&mut self, input: &mut Input<65536>) -> ControlFlow<()> {
+        self.flush()?;
+        if input.read_on(&mut self.stdin).is_err() {
+            let _ = eprintln!(self.stderr; "lesson_write: standard input can't be read");
+            return ControlFlow::Break(());
+        }
+        ControlFlow::Continue(())
     }
-    if p.ended {
-        return ended(p);
+
+    // ---- what a line gives
+
+    // Whether what a line gives is written.
+    fn is_written(&self) -> bool {
+        self.mode != Mode::Check && self.silent.is_none()
     }
-    read_on(flushed(p, out), reader, space)
+
+    fn write(&mut self, bytes: &[u8]) {
+        let _fits = self.waiting.try_extend_from_slice(bytes);
+    }
+
+    // The bytes of a script that a line is.
+    fn write_script(&mut self, bytes: &[u8]) -> ControlFlow<()> {
+        if bytes.is_empty() || !self.is_written() {
+            return ControlFlow::Continue(());
+        }
+        if self.mode == Mode::Items {
+            let [low, high, ..] = bytes.len().to_le_bytes();
+            self.write(&[SCRIPT, low, high]);
+        }
+        self.write(bytes);
+        ControlFlow::Continue(())
+    }
+
+    // The number of its line in eight bytes, and what is expected.
+    fn write_expected(&mut self, x: Expected) -> ControlFlow<()> {
+        if self.mode == Mode::Items && self.is_written() {
+            self.write(&[EXPECTATION, 16, 0]);
+            self.write(&self.lines.to_le_bytes());
+            self.write(&<[u8; 8]>::from(x));
+        }
+        ControlFlow::Continue(())
+    }
+
+    // ---- repeats
+
+    fn refuse(&self, line: &[u8], place: usize, rule: u32, n: u64) -> ControlFlow<()> {
+        say::fault(&self.stderr, self.lines, line, place, rule, n);
+        ControlFlow::Break(())
+    }
+
+    // A line that doesn't go with those before it.
+    fn refuse_misplaced(&self, line: &[u8], rule: u32) -> ControlFlow<()> {
+        let outermost = self.open.first().map_or(0, |r| r.line);
+        self.refuse(line, word_at(line, 0).from, rule, outermost)
+    }
+
+    fn begin_repeat(&mut self, n: u32, line: &[u8]) -> ControlFlow<()> {
+        let once = n == 0 || !self.is_written();
+        let repeat = Repeat {
+            start: self.place,
+            line: self.lines,
+            left: if once { 1 } else { n },
+        };
+        if self.open.try_push(repeat).is_err() {
+            return self.refuse_misplaced(line, say::TOO_DEEP);
+        }
+        if n == 0 && self.silent.is_none() {
+            self.silent = Some(self.open.len());
+        }
+        ControlFlow::Continue(())
+    }
+
+    // Back to the first line of the repeat, or on.
+    fn end_repeat(&mut self, line: &[u8]) -> ControlFlow<()> {
+        let depth = self.open.len();
+        let Some(mut repeat) = self.open.pop() else {
+            return self.refuse_misplaced(line, say::NO_REPEAT);
+        };
+        if 1 < repeat.left {
+            repeat.left -= 1;
+            self.place = repeat.start;
+            self.lines = repeat.line;
+            let _fits = self.open.try_push(repeat);
+        } else if self.silent == Some(depth) {
+            self.silent = None;
+        }
+        ControlFlow::Continue(())
+    }
+
+    // ---- lines
+
+    fn with_meaning(&mut self, m: Meaning, line: &[u8]) -> ControlFlow<()> {
+        match m {
+            Meaning::Nothing => ControlFlow::Continue(()),
+            Meaning::Step(e) => {
+                let mut record = [0; LONGEST_RECORD];
+                let n = writer::write_record(e, &mut record).unwrap_or(0);
+                self.write_script(&record[..n.min(LONGEST_RECORD)])
+            }
+            Meaning::Bytes(place) => self.write_script(&unhexed(line, place)),
+            Meaning::Expect(x) => self.write_expected(x),
+            Meaning::Repeat(n) => self.begin_repeat(n, line),
+            Meaning::Done => self.end_repeat(line),
+            Meaning::Bad(f) => self.refuse(line, f.place, f.rule, u64::from(f.number)),
+        }
+    }
+
+    // A line, behind which the next one begins. Outside of repeats all bytes up to there are used; how many they are.
+    fn with_line(&mut self, line: &[u8]) -> ControlFlow<(), usize> {
+        let next = self.place.wrapping_add(line.len()).wrapping_add(1);
+        let used = if self.open.is_empty() { next } else { 0 };
+        self.place = next - used;
+        self.lines = self.lines.wrapping_add(1);
+        self.with_meaning(lines::meaning_of(line), line)?;
+        if !self.open.is_empty() && LONGEST_REPEAT < self.place {
+            self.refuse_misplaced(line, say::TOO_MUCH)?;
+        }
+        ControlFlow::Continue(used)
+    }
+
+    // The text ends.
+    fn end(&mut self) -> ControlFlow<()> {
+        if !self.open.is_empty() {
+            self.lines = self.lines.wrapping_add(1);
+            return self.refuse_misplaced(b"", say::NOT_DONE);
+        }
+        ControlFlow::Break(())
+    }
+
+    // The next line is looked at; where it isn't there as a whole more is read.
+    fn turn(&mut self, input: &mut Input<65536>) -> ControlFlow<()> {
+        if ENOUGH < self.waiting.len() {
+            return self.flush();
+        }
+        let unread = input.unread();
+        let rest = &unread[self.place.min(unread.len())..];
+        let n = line_length(rest);
+        let ended = input.source() != Source::Open;
+        if LONGEST_LINE < n {
+            self.lines = self.lines.wrapping_add(1);
+            self.refuse(rest, LONGEST_LINE, say::TOO_LONG, 0)
+        } else if n < rest.len() || (ended && 0 < n) {
+            let used = self.with_line(&rest[..n])?;
+            input.pass(used);
+            ControlFlow::Continue(())
+        } else if ended {
+            self.end()
+        } else {
+            self.read_on(input)
+        }
+    }
 }
 
-// A loop that is proved has to end, and nothing says that the input does: no run uses so many turns up.
-fn run<R: Read>(first: Progress, reader: &mut R, space: &mut [u8], out: &mut [u8]) {
-    let mut p = first;
-    for _ in 0..u64::MAX {
-        if !p.going {
-            break;
-        }
-        p = round(p, reader, space, out);
+// ---- the program
+
+fn mode(rt: &impl Env) -> Result<Mode, ArgumentsError> {
+    let mut text = [0; 4096];
+    match command_line::argument(rt, &mut text)? {
+        None => Ok(Mode::Script),
+        Some(n) => match &text[..n] {
+            b"--check" => Ok(Mode::Check),
+            b"--expects" => Ok(Mode::Items),
+            _ => Err(ArgumentsError::Unknown),
+        },
     }
-    flushed(p, out);
 }
 
 // Other arguments are told, and nothing is read.
-fn arguments(rt: &impl Env) -> Progress {
-    let mut text = io::buffer();
-    let given = command_line::arguments(rt, &mut text);
-    let checks = matches!(
-        command_line::asked_for(given, &text, b"--check"),
-        Asked::Word
-    );
-    let expects = matches!(
-        command_line::asked_for(given, &text, b"--expects"),
-        Asked::Word
-    );
-    let known = checks | expects | matches!(given, Given::Nothing);
-    if !known {
-        say::say(b"usage: lesson_write [--check | --expects]\n");
-    }
-    begun(checks, expects, known)
-}
-
-fn begun(checks: bool, expects: bool, known: bool) -> Progress {
-    Progress {
-        place: 0,
-        filled: 0,
-        ended: false,
-        lines: 0,
-        open: 0,
-        base: 0,
-        starts: [0; DEEPEST],
-        numbers: [0; DEEPEST],
-        left: [0; DEEPEST],
-        silent: 0,
-        waiting: 0,
-        head: HEAD * (bits::one(expects) as usize),
-        checks: checks,
-        going: known,
-    }
-}
-
 fn main(rt: HostRuntime) {
-    let mut space = io::large_buffer();
-    let mut out = io::large_buffer();
-    run(arguments(&rt), &mut rt.stdin(), &mut space, &mut out);
+    let Ok(mode) = mode(&rt) else {
+        let _ = eprintln!(rt; "usage: lesson_write [--check | --expects]");
+        return;
+    };
+    let mut session = Session::begun(&rt, mode);
+    let mut input = Input::new();
+    // A proved loop has to end, and nothing says that the input does: no run uses so many turns up.
+    let _ = (0..u64::MAX).try_for_each(|_| session.turn(&mut input));
+    let _ = session.flush();
 }

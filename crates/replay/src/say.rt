@@ -1,101 +1,66 @@
 // What is said on standard error.
-const STDERR_FILENO: i32 = 2;
+use model::Refusal;
+use std::io;
 
-pub(crate) fn say(text: &[u8]) {
-    io::write_all(STDERR_FILENO, text);
-}
+const SHORT: u8 = Refusal::Short as u8;
 
-fn say_number(n: usize) {
-    io::print_decimal(STDERR_FILENO, n as u64);
-}
+const UNKNOWN_TAG: u8 = Refusal::UnknownTag as u8;
 
-fn say_hex(b: u8) {
-    io::print_hex(STDERR_FILENO, b as u64, 2);
-}
+const NOT_OPENED: u8 = Refusal::NotOpened as u8;
 
-fn say_byte(b: u8) {
-    say(b"0x");
-    say_hex(b);
-}
-
-// The number (from 1) and the first byte (from 0) of a record.
-pub(crate) fn place(record: u64, byte: u64) {
-    say(b"replay: record ");
-    io::print_decimal(STDERR_FILENO, record);
-    say(b" at byte ");
-    io::print_decimal(STDERR_FILENO, byte);
-    say(b": ");
-}
-
-fn say_byte_of(lesson: &[u8], i: usize) {
-    if i < lesson.len() {
-        say(b" ");
-        say_hex(lesson[i]);
-    }
+// The number (from 1) and the first byte (from 0) of the next record, behind so many records and bytes.
+pub(crate) fn place(err: &impl Eprint, records: u64, bytes: u64) -> io::Result<()> {
+    let record = records.wrapping_add(1);
+    eprint!(err; "replay: record {record} at byte {bytes}: ")
 }
 
 // The bytes with which a lesson begins, at most three, instead of the opening.
-pub(crate) fn opening(lesson: &[u8]) {
-    say(b"replay: the lesson doesn't open with 01 00 00, the record of a reset: ");
-    if lesson.len() == 0 {
-        say(b"it is empty\n");
-        return;
+fn opening(err: &impl Eprint, lesson: &[u8]) -> io::Result<()> {
+    eprint!(err; "replay: the lesson doesn't open with 01 00 00, the record of a reset: ")?;
+    match lesson {
+        [] => return eprintln!(err; "it is empty"),
+        [_] | [_, _] => eprint!(err; "it ends after")?,
+        _ => eprint!(err; "it begins with")?,
     }
-    if lesson.len() < 3 {
-        say(b"it ends after");
-    } else {
-        say(b"it begins with");
+    for byte in lesson.iter().take(3) {
+        eprint!(err; " {byte:02x}")?;
     }
-    say_byte_of(lesson, 0);
-    say_byte_of(lesson, 1);
-    say_byte_of(lesson, 2);
-    say(b"\n");
+    eprintln!(err)
 }
 
-fn say_short(rest: &[u8]) {
-    let n = rest.len();
-    if n < 3 {
-        say(b"cut short: a header has 3 bytes, the input ends after ");
-        say_number(n);
-        say(b"\n");
-        return;
+// Why the record at the start of the rest can't be read.
+fn reason(err: &impl Eprint, code: u8, rest: &[u8]) -> io::Result<()> {
+    let [tag, low, high, body @ ..] = rest else {
+        return eprintln!(err;
+            "cut short: a header has 3 bytes, the input ends after {}",
+            rest.len()
+        );
+    };
+    let length = u16::from_le_bytes([*low, *high]);
+    match code {
+        SHORT => {
+            eprintln!(err;
+                "cut short: the header says {length} bytes of body, the input ends after {}",
+                body.len()
+            )
+        }
+        UNKNOWN_TAG => eprintln!(err; "unknown tag 0x{tag:02x}; the tags are 0x01 to 0x0a"),
+        _ => eprintln!(err; "length {length} is wrong for tag 0x{tag:02x}"),
     }
-    say(b"cut short: the header says ");
-    say_number(length_said(rest[1], rest[2]));
-    say(b" bytes of body, the input ends after ");
-    say_number(n - 3);
-    say(b"\n");
 }
 
-fn length_said(low: u8, high: u8) -> usize {
-    low as usize + high as usize * 256
-}
-
-// Why the record at a place of a script can't be read, by its code 6 to 8.
-pub(crate) fn fault(code: u8, script: &[u8], place: usize) {
-    let a = bits::least(place, script.len());
-    say_reason(code, &script[a..]);
-}
-
-fn say_reason(code: u8, rest: &[u8]) {
-    if rest.len() < 3 {
-        say_short(rest);
-        return;
+// Why the opening is refused, or the record at a place of a piece, behind so many records and bytes, can't be read.
+pub(crate) fn fault(
+    err: &impl Eprint,
+    records: u64,
+    bytes: u64,
+    code: u8,
+    piece: &[u8],
+    at: usize,
+) -> io::Result<()> {
+    if code == NOT_OPENED {
+        return opening(err, piece);
     }
-    if code == 6 {
-        say_short(rest);
-        return;
-    }
-    let tag = rest[0];
-    if code == 7 {
-        say(b"unknown tag ");
-        say_byte(tag);
-        say(b"; the tags are 0x01 to 0x0a\n");
-        return;
-    }
-    say(b"length ");
-    say_number(length_said(rest[1], rest[2]));
-    say(b" is wrong for tag ");
-    say_byte(tag);
-    say(b"\n");
+    place(err, records, bytes)?;
+    reason(err, code, &piece[at.min(piece.len())..])
 }

@@ -1,29 +1,17 @@
 // What the steps of a lesson must answer, what came, and what is said where they differ.
-use super::{
-    BEHIND, NOTHING, OPENING, Progress, UNREAD, complain_line, fault, flushed, unsaid_told,
-};
-use expected::Expected;
-use model::Answer;
+use super::{Last, Session};
+use expected::{Expected, Response};
+use std::ops::ControlFlow;
 use text::Line;
-
-// What is expected, as an item has it: whether code and word are expected, code, word in four bytes, whether lines are, lines.
-fn decoded(x: u64) -> Expected {
-    Expected {
-        answered: x % 256 != 0,
-        code: (x / 256 % 256) as u8,
-        word: (x / 65536 % 4294967296) as u32,
-        lined: x / 281474976710656 % 256 != 0,
-        lines: (x / 72057594037927936) as u8,
-    }
-}
 
 // ---- words
 
+// The interrupt lines that are up, where they are expected.
 fn with_lines(l: Line, x: Expected, up: u8) -> Line {
-    if !x.lined {
+    if x.lines.is_none() {
         return l;
     }
-    let a = l.said(b"lines|, lines", x.answered as u32, 0);
+    let a = l.said(b"lines|, lines", u32::from(x.response.is_some()), 0);
     wording::lines_up(a, up, b" none")
 }
 
@@ -34,96 +22,90 @@ fn with_word(l: Line, w: u32) -> Line {
 // Which line expects what.
 fn wanted(line: u64, x: Expected) -> Line {
     let a = Line::empty().said(b"line %: expected ", 0, line);
-    if !x.answered {
-        return with_lines(a, x, x.lines);
-    }
-    if x.code == 0 {
-        return with_lines(with_word(a, x.word), x, x.lines);
-    }
-    with_lines(a.said(b"refused %", 0, x.code as u64), x, x.lines)
-}
-
-fn answer(l: Line, p: Progress, space: &[u8]) -> Line {
-    if p.of == UNREAD {
-        return wording::fault(l, fault(p, space));
-    }
-    if p.of == OPENING {
-        return wording::unopened(l);
-    }
-    if p.code == 0 {
-        return with_word(l, p.word);
-    }
-    wording::refused(l, p.code, p.reason, p.index)
-}
-
-// What is not as a line expects it; a script that stopped did so at a byte.
-fn complaint(p: Progress, line: u64, x: Expected, space: &[u8]) -> Line {
-    let a = wanted(line, x);
-    if p.of == NOTHING {
-        return a.put(b"; there is no step above\n");
-    }
-    if p.of == BEHIND {
-        return a.said(b"; the script stopped before, at byte %\n", 0, p.bytes);
-    }
-    let b = a.put(b"; came ");
-    if x.answered {
-        return with_lines(answer(b, p, space), x, p.lines).byte(b'\n');
-    }
-    with_lines(b, x, p.lines).byte(b'\n')
-}
-
-// ---- what is expected
-
-// The text before a complaint goes out first.
-fn failed(p: Progress, l: Line, out: &[u8]) -> Progress {
-    let mut q = flushed(p, out);
-    q.checked = std::num::wrapping_add_u64(p.checked, 1);
-    q.failures = std::num::wrapping_add_u64(p.failures, 1);
-    complain_line(l);
-    q
-}
-
-// A code that is expected needs no complaint of its record.
-fn checked(p: Progress, line: u64, expected: u64, space: &[u8], out: &[u8]) -> Progress {
-    let x = decoded(expected);
-    let came = Answer {
-        code: p.code,
-        lines: p.lines,
-        word: p.word,
+    let b = match x.response {
+        None => a,
+        Some(Response { code: 0, word }) => with_word(a, word),
+        Some(Response { code, .. }) => a.said(b"refused %", 0, u64::from(code)),
     };
-    if (p.of != NOTHING) & (p.of != BEHIND) & expected::holds(x, came) {
-        let mut q = p;
-        q.checked = std::num::wrapping_add_u64(p.checked, 1);
-        q.unsaid = p.unsaid & !x.answered;
-        return q;
-    }
-    let q = unsaid_told(p, space);
-    failed(q, complaint(q, line, x, space), out)
+    with_lines(b, x, x.lines.unwrap_or(0))
 }
 
-// What waited for the record is checked.
-pub(crate) fn kept_checked(p: Progress, space: &[u8], out: &[u8]) -> Progress {
-    if p.line == 0 {
-        return p;
+impl Session {
+    // What the last answer is.
+    fn with_answer(&self, l: Line) -> Line {
+        match self.last {
+            Last::Unread => wording::fault(l, self.fault()),
+            Last::Opening => wording::unopened(l),
+            Last::Step { reason, index } if self.answer.code != 0 => {
+                wording::refused(l, self.answer.code, reason, index)
+            }
+            _ => with_word(l, self.answer.word),
+        }
     }
-    let mut q = p;
-    q.line = 0;
-    checked(q, p.line, p.expected, space, out)
-}
 
-// What the line with a number expects of the last answer. Of a record that isn't whole yet it waits for it, once.
-pub(crate) fn expected(p: Progress, line: u64, x: u64, space: &[u8], out: &[u8]) -> Progress {
-    if p.stopped | (p.end <= p.start) {
-        return checked(p, line, x, space, out);
+    // What is not as a line expects it; a script that stopped did so at a byte.
+    fn complaint(&self, line: u64, x: Expected) -> Line {
+        let a = wanted(line, x);
+        match self.last {
+            Last::Nothing => a.put(b"; there is no step above\n"),
+            Last::Behind => a.said(b"; the script stopped before, at byte %\n", 0, self.bytes),
+            _ => {
+                let b = a.put(b"; came ");
+                let c = if x.response.is_some() {
+                    self.with_answer(b)
+                } else {
+                    b
+                };
+                with_lines(c, x, self.answer.lines).byte(b'\n')
+            }
+        }
     }
-    if p.line != 0 {
-        let l = wanted(line, decoded(x)).put(
-            b"; the record above isn't whole yet, and one line expects its answer already\n",
-        );
-        return failed(p, l, out);
+
+    // ---- what is expected
+
+    // The text before a complaint goes out first.
+    fn fail(&mut self, l: Line) -> ControlFlow<()> {
+        let flow = self.flush();
+        self.checked = self.checked.wrapping_add(1);
+        self.failures = self.failures.wrapping_add(1);
+        self.complain(l);
+        flow
     }
-    let mut q = p;
-    q.line = line;
-    q.expected = x;
-    q
+
+    // A code that is expected needs no complaint of its record.
+    fn check(&mut self, line: u64, x: Expected) -> ControlFlow<()> {
+        let answered = !matches!(self.last, Last::Nothing | Last::Behind);
+        if answered && x.holds(self.answer) {
+            self.checked = self.checked.wrapping_add(1);
+            self.unsaid = self.unsaid && x.response.is_none();
+            return ControlFlow::Continue(());
+        }
+        self.tell_unsaid();
+        let l = self.complaint(line, x);
+        self.fail(l)
+    }
+
+    // What waited for the record is checked.
+    pub(crate) fn check_pending(&mut self) -> ControlFlow<()> {
+        match self.pending.take() {
+            Some((line, x)) => self.check(line, x),
+            None => ControlFlow::Continue(()),
+        }
+    }
+
+    // What the line with a number expects of the last answer. Of a record that isn't whole yet it waits for it, once; no line has the
+    // number 0.
+    pub(crate) fn expect(&mut self, line: u64, x: Expected) -> ControlFlow<()> {
+        if self.stopped || self.script.unread().is_empty() {
+            return self.check(line, x);
+        }
+        if self.pending.is_some() {
+            let l = wanted(line, x);
+            return self.fail(l.put(
+                b"; the record above isn't whole yet, and one line expects its answer already\n",
+            ));
+        }
+        self.pending = (line != 0).then_some((line, x));
+        ControlFlow::Continue(())
+    }
 }

@@ -5,470 +5,380 @@
 
 use account::Account;
 use account::faults::Fault;
-use bits::least;
-use command_line::Asked;
-use model::{Reading, Step};
-use names::scan::byte_at;
-use std::io::Read;
+use arrayvec::ArrayVec;
+use command_line::ArgumentsError;
+use expected::Expected;
+use model::{Answer, Controller, Refusal, Step};
+use std::env::Env;
+use std::io::{Stderr, Stdin, Stdout};
+use std::ops::ControlFlow;
+use stream::{Input, Source};
 use text::Line;
 
 mod checks; // what is expected, and what came
-
-const STDOUT_FILENO: i32 = 1;
-
-const STDERR_FILENO: i32 = 2;
 
 // An item of a lesson, as lesson_write gives it: a tag, the length of the body in two bytes, and the body; numbers have their low
 // byte first. No line of a lesson gives more than 1000 bytes. The body of what a line expects is its number in eight bytes and what
 // it expects in eight.
 const HEAD: usize = 3;
 
-const LONGEST_ITEM: usize = 1003;
+const LONGEST_BODY: usize = 1000;
+
+const LONGEST_ITEM: usize = HEAD + LONGEST_BODY;
 
 const SCRIPT: u8 = 1;
 
 const EXPECTATION: u8 = 2;
 
-const EXPECTATION_LENGTH: usize = 19;
+const EXPECTATION_LENGTH: usize = HEAD + 16;
 
 // Past this the text goes out, so that there is always room for a line.
 const ENOUGH_TEXT: usize = 61440;
 
-// Of what the last answer is: of nothing yet, of a step, of a record that can't be read, of another opening than a reset, of
-// something behind the stop of the script.
-const NOTHING: u32 = 0;
-
-const STEP: u32 = 1;
-
-const UNREAD: u32 = 2;
-
-const OPENING: u32 = 3;
-
-const BEHIND: u32 = 4;
-
-// The records so far, how many of them were refused, the bytes that they take; the text that waits, and whether to go on. The input
-// that is not used yet lies from `place` up to `filled` of its space, and before it, from `start` up to `end`, the script that is not
-// used yet; `whole`: nothing follows it. `length` is that of the record whose step is made now, 0 where there is none. The last answer, and of
-// a refused step the number of the reason and of its mailbox or bank; `unsaid`: that a record can't be read is still to be told. What
-// a line expects of a record that isn't whole yet, by the number of the line, 0 where there is none; the expectations that were
-// checked and those that failed.
+// What the last answer is of: of nothing yet, of a step, of a record that can't be read, of another opening than a reset, of
+// something behind the stop of the script. Of a refused step the number of the reason and of its mailbox or bank.
 #[derive(Clone, Copy)]
-struct Progress {
+enum Last {
+    Nothing,
+    Step { reason: u32, index: u32 },
+    Unread,
+    Opening,
+    Behind,
+}
+
+// The records so far, how many of them were refused, the bytes that they take; the text that waits. What is not used yet of the items
+// and, out of these, of the script, which begins with the next record; `whole`: nothing follows it. The last answer; `unsaid`: that a
+// record can't be read is still to be told. What a line with a number expects of a record that isn't whole yet; the expectations that
+// were checked and those that failed.
+#[derive(Drop)]
+struct Session {
     records: u64,
     refused: u64,
     bytes: u64,
-    text: usize,
-    going: bool,
-    place: usize,
-    filled: usize,
-    ended: bool,
-    failed: bool,
-    start: usize,
-    end: usize,
+    waiting: ArrayVec<u8, 65536>,
+    items: Input<65536>,
+    script: Input<1024>,
     whole: bool,
-    length: usize,
     lesson: bool,
     stopped: bool,
-    of: u32,
-    code: u8,
-    lines: u8,
-    word: u32,
-    reason: u32,
-    index: u32,
+    last: Last,
+    answer: Answer,
     unsaid: bool,
-    line: u64,
-    expected: u64,
+    pending: Option<(u64, Expected)>,
     checked: u64,
     failures: u64,
+    stdin: Stdin,
+    stdout: Stdout,
+    stderr: Stderr,
 }
 
-// ---- input and output
-
-// The first n bytes go out; whether that went well.
-fn sent(text: &[u8], n: usize, file: i32) -> bool {
-    let k = least(n, text.len());
-    io::write_all(file, &text[0..k])
-}
-
-fn complain(text: &[u8]) {
-    io::write_all(STDERR_FILENO, text);
-}
-
-fn complain_line(l: Line) {
-    let bytes = l.bytes;
-    sent(&bytes, l.at, STDERR_FILENO);
-}
-
-fn flushed(p: Progress, out: &[u8]) -> Progress {
-    let ok = sent(out, p.text, STDOUT_FILENO);
-    if !ok {
-        complain(b"trace: standard output can't be written, the rest is lost\n");
+impl Session {
+    fn begun(rt: &HostRuntime, lesson: bool) -> Self {
+        Self {
+            records: 0,
+            refused: 0,
+            bytes: 0,
+            waiting: ArrayVec::new(),
+            items: Input::new(),
+            script: Input::new(),
+            whole: false,
+            lesson,
+            stopped: false,
+            last: Last::Nothing,
+            answer: Answer {
+                code: 0,
+                lines: 0,
+                word: 0,
+            },
+            unsaid: false,
+            pending: None,
+            checked: 0,
+            failures: 0,
+            stdin: rt.stdin(),
+            stdout: rt.stdout(),
+            stderr: rt.stderr(),
+        }
     }
-    let mut q = p;
-    q.text = 0;
-    q.going = p.going & ok;
-    q
-}
 
-// A line goes behind the text that waits.
-fn stored(p: Progress, l: Line, out: &mut [u8]) -> Progress {
-    let from = least(p.text, out.len());
-    let mut q = p;
-    q.text = std::num::wrapping_add_usize(from, l.copied(&mut out[from..]));
-    q
-}
+    // ---- input and output
 
-// So many bytes from a place on, moved down to another.
-fn moved(space: &mut [u8], from: usize, to: usize, n: usize) {
-    for i in 0..n {
-        let b = byte_at(space, std::num::wrapping_add_usize(from, i));
-        let k = std::num::wrapping_add_usize(to, i);
-        set(space, k, b);
+    fn complain(&self, l: Line) {
+        let _ = self.stderr.write_all(l.as_bytes());
     }
-}
 
-fn set(space: &mut [u8], i: usize, b: u8) {
-    if i < space.len() {
-        space[i] = b;
+    fn flush(&mut self) -> ControlFlow<()> {
+        if stream::send(&mut self.waiting, &mut self.stdout).is_err() {
+            let _ = eprintln!(self.stderr;
+                "trace: standard output can't be written, the rest is lost"
+            );
+            return ControlFlow::Break(());
+        }
+        ControlFlow::Continue(())
     }
-}
 
-// All text goes out before more is read. What is not used yet goes to the front, the script and then the input.
-fn read_on<R: Read>(p: Progress, reader: &mut R, space: &mut [u8], out: &[u8]) -> Progress {
-    let mut q = flushed(p, out);
-    if !q.going {
-        return q;
+    // A line goes behind the text that waits.
+    fn store(&mut self, l: Line) {
+        let _fits = self.waiting.try_extend_from_slice(l.as_bytes());
     }
-    let held = stream::to_front(space, p.start, p.end);
-    let left = std::num::wrapping_sub_usize(p.filled, p.place);
-    moved(space, p.place, held, left);
-    let f = stream::refilled(reader, space, 0, std::num::wrapping_add_usize(held, left));
-    if f.failed {
-        complain(b"trace: standard input can't be read\n");
-    }
-    q.start = 0;
-    q.end = held;
-    q.place = held;
-    q.filled = f.length;
-    q.ended = f.ended | f.failed;
-    q.failed = f.failed;
-    q
-}
 
-// ---- the script
+    // All text goes out before more is read.
+    fn read_on(&mut self) -> ControlFlow<()> {
+        self.flush()?;
+        if self.items.read_on(&mut self.stdin).is_err() {
+            let _ = eprintln!(self.stderr; "trace: standard input can't be read");
+        }
+        ControlFlow::Continue(())
+    }
 
-// What is wrong with the record at its front, by the code.
-fn fault(p: Progress, space: &[u8]) -> Fault {
-    let end = least(p.end, space.len());
-    let start = least(p.start, end);
-    account::faults::fault_in(p.code, &space[start..end])
-}
+    // Whether the script or its items may just break off.
+    fn has_failed(&self) -> bool {
+        self.items.source() == Source::Failed
+    }
 
-// That a record can't be read is told once it is known that no line expects it.
-fn unsaid_told(p: Progress, space: &[u8]) -> Progress {
-    if !p.unsaid {
-        return p;
-    }
-    let n = std::num::wrapping_add_u64(p.records, 1);
-    complain_line(wording::complaint(b"trace", n, p.bytes, fault(p, space)));
-    let mut q = p;
-    q.unsaid = false;
-    q
-}
+    // ---- the script
 
-// So many bytes from a place on are the script, or go behind what is not used of it yet; behind its stop they say nothing.
-fn with_bytes(p: Progress, from: usize, n: usize, space: &mut [u8]) -> Progress {
-    if p.stopped {
-        let mut q = unsaid_told(p, space);
-        q.of = BEHIND;
-        return q;
+    // What is wrong with the record at its front.
+    fn fault(&self) -> Fault {
+        account::faults::fault_in(self.answer.code, self.script.unread())
     }
-    let mut q = p;
-    if p.end <= p.start {
-        q.start = from;
-        q.end = std::num::wrapping_add_usize(from, n);
-        return q;
-    }
-    moved(space, from, p.end, n);
-    q.end = std::num::wrapping_add_usize(p.end, n);
-    q
-}
 
-// The last line, behind one that is begun. A lesson is read on for what it expects.
-fn stopped(p: Progress, l: Line, why: u32, space: &[u8], out: &mut [u8]) -> Progress {
-    let last = wording::last(l, why, p.bytes, p.records, p.refused);
-    let mut q = stored(p, last, out);
-    q.stopped = true;
-    q.going = p.lesson;
-    checks::kept_checked(q, space, out)
-}
+    // That a record can't be read is told once it is known that no line expects it.
+    fn tell_unsaid(&mut self) {
+        if self.unsaid {
+            let n = self.records.wrapping_add(1);
+            self.complain(wording::complaint(b"trace", n, self.bytes, self.fault()));
+            self.unsaid = false;
+        }
+    }
 
-// Another opening than a reset is told.
-fn unopened(p: Progress, space: &[u8], out: &mut [u8]) -> Progress {
-    let end = least(p.end, space.len());
-    let start = least(p.start, end);
-    complain_line(wording::unopened_complaint(b"trace", &space[start..end]));
-    let mut q = p;
-    q.of = OPENING;
-    q.code = 11;
-    stopped(q, wording::unopened_line(p.lines), 0, space, out)
-}
+    // The bytes of the items from a place up to another are the script's next ones; behind its stop they say nothing.
+    fn take_script(&mut self, from: usize, to: usize) {
+        if self.stopped {
+            self.tell_unsaid();
+            self.last = Last::Behind;
+        } else {
+            let items = self.items.unread();
+            let end = to.min(items.len());
+            let mut body = &items[from.min(end)..end];
+            let _ = self.script.read_on(&mut body);
+        }
+        self.items.pass(to);
+    }
 
-// The end, or a record that can't be read, by its code; where reading failed the script may just break off inside it.
-fn stop(p: Progress, code: u8, space: &[u8], out: &mut [u8]) -> Progress {
-    if p.lesson & (p.records == 0) {
-        return unopened(p, space, out);
+    // The last line, behind one that is begun. A lesson is read on for what it expects.
+    fn stop_with(&mut self, l: Line, why: u32) -> ControlFlow<()> {
+        let last = wording::last(l, why, self.bytes, self.records, self.refused);
+        self.store(last);
+        self.stopped = true;
+        self.check_pending()?;
+        if self.lesson {
+            ControlFlow::Continue(())
+        } else {
+            ControlFlow::Break(())
+        }
     }
-    if (code == 0) | (p.failed & (code == 6)) {
-        let why = bits::pick(p.failed, 2, 1);
-        return stopped(p, Line::empty(), why, space, out);
-    }
-    let mut q = p;
-    q.of = UNREAD;
-    q.code = code;
-    q.word = 0;
-    q.unsaid = true;
-    if !p.lesson {
-        q = unsaid_told(q, space);
-    }
-    let n = std::num::wrapping_add_u64(p.records, 1);
-    let l = wording::unread_line(n, p.bytes, fault(q, space), p.lines);
-    stopped(q, l, 0, space, out)
-}
 
-// ---- items
+    // Another opening than a reset is told.
+    fn refuse_opening(&mut self) -> ControlFlow<()> {
+        self.complain(wording::unopened_complaint(b"trace", self.script.unread()));
+        self.last = Last::Opening;
+        self.answer.code = u8::from(Refusal::NotOpened);
+        self.stop_with(wording::unopened_line(self.answer.lines), 0)
+    }
 
-// A number of so many bytes from a place on.
-fn number(s: &[u8], at: usize, count: usize) -> u64 {
-    let mut n: u64 = 0;
-    for k in (0..count).rev() {
-        let b = byte_at(s, std::num::wrapping_add_usize(at, k));
-        n = n % 72057594037927936 * 256 + b as u64;
-    }
-    n
-}
-
-// How long the next item is, or its head; a script without items is one of the bytes that are there.
-fn item_length(lesson: bool, rest: &[u8]) -> usize {
-    if !lesson & (0 < rest.len()) {
-        return rest.len();
-    }
-    if rest.len() < HEAD {
-        return HEAD;
-    }
-    HEAD + (number(rest, 1, 2) % 65536) as usize
-}
-
-// Items of another kind; where reading failed they may just break off.
-fn broken(p: Progress) -> Progress {
-    if !p.failed {
-        complain(b"trace: standard input has no items of a lesson\n");
-    }
-    let mut q = p;
-    q.going = false;
-    q
-}
-
-// The items end, unless some bytes are left: so does the script, and behind its end the lesson.
-fn items_ended(p: Progress, left: usize, space: &[u8], out: &mut [u8]) -> Progress {
-    if left != 0 {
-        return broken(p);
-    }
-    let mut q = p;
-    q.whole = true;
-    if !p.stopped {
-        return q;
-    }
-    q = unsaid_told(q, space);
-    q.going = false;
-    let a = Line::empty().said(b"% expectations checked, ", 0, p.checked);
-    stored(q, a.said(b"% failed\n", 0, p.failures), out)
-}
-
-// The item of so many bytes at a place.
-fn with_item(p: Progress, place: usize, n: usize, space: &mut [u8], out: &mut [u8]) -> Progress {
-    let tag = byte_at(space, place);
-    let mut q = p;
-    q.place = std::num::wrapping_add_usize(place, n);
-    if !p.lesson {
-        return with_bytes(q, place, n, space);
-    }
-    let body = std::num::wrapping_add_usize(place, HEAD);
-    if (tag == SCRIPT) & (n <= LONGEST_ITEM) {
-        return with_bytes(q, body, std::num::wrapping_sub_usize(n, HEAD), space);
-    }
-    if (tag == EXPECTATION) & (n == EXPECTATION_LENGTH) {
-        let line = number(space, body, 8);
-        let x = number(space, std::num::wrapping_add_usize(body, 8), 8);
-        return checks::expected(q, line, x, space, out);
-    }
-    broken(q)
-}
-
-fn next_item<R: Read>(p: Progress, reader: &mut R, space: &mut [u8], out: &mut [u8]) -> Progress {
-    let filled = least(p.filled, space.len());
-    let place = least(p.place, filled);
-    let rest = &space[place..filled];
-    let left = rest.len();
-    let n = item_length(p.lesson, rest);
-    if n <= left {
-        return with_item(p, place, n, space, out);
-    }
-    if p.ended | (LONGEST_ITEM < n) {
-        return items_ended(p, left, space, out);
-    }
-    read_on(p, reader, space, out)
-}
-
-// ---- a turn of the loop
-
-// The length of the record at the front of the script, or why there is none: 6 to 8; 11, another opening than a reset; 0, no bytes.
-#[derive(Clone, Copy)]
-struct Front {
-    length: usize,
-    code: u8,
-}
-
-fn front_of(p: Progress, space: &[u8]) -> Front {
-    let end = least(p.end, space.len());
-    let start = least(p.start, end);
-    let rest = &space[start..end];
-    let x = records::reading(rest, 0);
-    match x {
-        Reading::Found(_, n) => {
-            if p.lesson & (p.records == 0) & (byte_at(rest, 0) != 1) {
-                return Front {
-                    length: 0,
-                    code: 11,
-                };
+    // The end, or a record that can't be read; where reading failed the script may just break off inside it.
+    fn stop(&mut self, refusal: Option<Refusal>) -> ControlFlow<()> {
+        if self.lesson && self.records == 0 {
+            return self.refuse_opening();
+        }
+        let failed = self.has_failed();
+        match refusal {
+            Some(why) if !(failed && why == Refusal::Short) => {
+                self.last = Last::Unread;
+                self.answer.code = u8::from(why);
+                self.answer.word = 0;
+                self.unsaid = true;
+                if !self.lesson {
+                    self.tell_unsaid();
+                }
+                let n = self.records.wrapping_add(1);
+                let l = wording::unread_line(n, self.bytes, self.fault(), self.answer.lines);
+                self.stop_with(l, 0)
             }
-            Front { length: n, code: 0 }
+            _ => self.stop_with(Line::empty(), if failed { 2 } else { 1 }),
         }
-        Reading::Malformed(code) => Front {
-            length: 0,
-            code: code,
-        },
-        Reading::End => Front { length: 0, code: 0 },
     }
-}
 
-// The next record, or else the next item; `length` says whether there is a step to be made.
-fn next<R: Read>(p: Progress, reader: &mut R, space: &mut [u8], out: &mut [u8]) -> Progress {
-    let x = front_of(p, space);
-    let mut q = p;
-    q.length = 0;
-    if ENOUGH_TEXT < p.text {
-        return flushed(q, out);
-    }
-    if p.stopped | (!p.whole & (x.length == 0) & ((x.code == 0) | (x.code == 6))) {
-        return next_item(q, reader, space, out);
-    }
-    if x.length == 0 {
-        return stop(q, x.code, space, out);
-    }
-    q.length = x.length;
-    q
-}
+    // ---- items
 
-// The step of the turn; where it has none, bit times 0, which every state refuses.
-fn step_of(p: Progress, space: &[u8]) -> Step {
-    if p.length == 0 {
-        return Step::BitTimes(0);
-    }
-    let end = least(p.end, space.len());
-    let start = least(p.start, end);
-    let x = records::reading(&space[start..end], 0);
-    match x {
-        Reading::Found(e, _) => e,
-        _ => Step::BitTimes(0),
-    }
-}
-
-// The line of the step, and what waited for its answer.
-fn told(p: Progress, e: Step, a: Account, space: &[u8], out: &mut [u8]) -> Progress {
-    if p.length == 0 {
-        return p;
-    }
-    let g = a.place;
-    let mut q = p;
-    q.records = std::num::wrapping_add_u64(p.records, 1);
-    q.refused = std::num::wrapping_add_u64(p.refused, (a.code != 0) as u64);
-    q.bytes = std::num::wrapping_add_u64(p.bytes, p.length as u64);
-    q.start = std::num::wrapping_add_usize(p.start, p.length);
-    q.of = STEP;
-    q.code = a.code;
-    q.lines = a.lines;
-    q.word = a.word;
-    q.reason = a.reason;
-    q.index = g.index;
-    let r = stored(q, wording::line(q.records, e, a), out);
-    checks::kept_checked(r, space, out)
-}
-
-// A loop that is proved has to end, and nothing says that the input does: no run uses so many turns up.
-fn run<R: Read>(first: Progress, reader: &mut R, space: &mut [u8], out: &mut [u8]) {
-    let mut z = controller::reset();
-    let mut p = stored(first, wording::head(), out);
-    for _ in 0..u64::MAX {
-        if !p.going {
-            break;
+    // Items of another kind; where reading failed they may just break off.
+    fn refuse_items(&self) -> ControlFlow<()> {
+        if !self.has_failed() {
+            let _ = eprintln!(self.stderr; "trace: standard input has no items of a lesson");
         }
-        p = next(p, reader, space, out);
-        let e = step_of(p, space);
-        let a = controller::step(z, e);
-        let x = account::account_of(z, e, a);
-        z = a.controller;
-        p = told(p, e, x, space, out);
+        ControlFlow::Break(())
     }
-    flushed(p, out);
+
+    // The items end: so does the script, and behind its end the lesson.
+    fn end_items(&mut self) -> ControlFlow<()> {
+        self.whole = true;
+        if !self.stopped {
+            return ControlFlow::Continue(());
+        }
+        self.tell_unsaid();
+        let l = Line::empty()
+            .said(b"% expectations checked, ", 0, self.checked)
+            .said(b"% failed\n", 0, self.failures);
+        self.store(l);
+        ControlFlow::Break(())
+    }
+
+    fn take_item(&mut self, n: usize) -> ControlFlow<()> {
+        let items = self.items.unread();
+        match &items[..n.min(items.len())] {
+            [SCRIPT, _, _, body @ ..] if body.len() <= LONGEST_BODY => {
+                self.take_script(HEAD, n);
+                ControlFlow::Continue(())
+            }
+            [
+                EXPECTATION,
+                16,
+                0,
+                a,
+                b,
+                c,
+                d,
+                e,
+                f,
+                g,
+                h,
+                i,
+                j,
+                k,
+                l,
+                m,
+                n,
+                o,
+                p,
+            ] => {
+                let line = u64::from_le_bytes([*a, *b, *c, *d, *e, *f, *g, *h]);
+                let x = Expected::from([*i, *j, *k, *l, *m, *n, *o, *p]);
+                self.items.pass(EXPECTATION_LENGTH);
+                self.expect(line, x)
+            }
+            _ => self.refuse_items(),
+        }
+    }
+
+    // The next item, where it is there as a whole; a script without items is one of the bytes that are there.
+    fn next_item(&mut self) -> ControlFlow<()> {
+        let rest = self.items.unread();
+        let left = rest.len();
+        if !self.lesson && left != 0 {
+            self.take_script(0, left.min(LONGEST_BODY));
+            return ControlFlow::Continue(());
+        }
+        let length = item_length(rest);
+        if length <= left {
+            self.take_item(length)
+        } else if length <= LONGEST_ITEM && self.items.source() == Source::Open {
+            self.read_on()
+        } else if left == 0 {
+            self.end_items()
+        } else {
+            self.refuse_items()
+        }
+    }
+
+    // ---- a turn of the loop
+
+    // The record at the front of the script, if there are bytes.
+    fn front(&self) -> Result<Option<(Step, usize)>, Refusal> {
+        let found = records::reading(self.script.unread(), 0)?;
+        let opens = self.lesson && self.records == 0;
+        match found {
+            Some((step, _)) if opens && !matches!(step, Step::Reset) => Err(Refusal::NotOpened),
+            _ => Ok(found),
+        }
+    }
+
+    // The step of the next record and its length, or else the next item.
+    fn next(&mut self) -> ControlFlow<(), Option<(Step, usize)>> {
+        if ENOUGH_TEXT < self.waiting.len() {
+            self.flush()?;
+            return ControlFlow::Continue(None);
+        }
+        match self.front() {
+            _ if self.stopped => self.next_item()?,
+            Ok(Some(found)) => return ControlFlow::Continue(Some(found)),
+            Ok(None) | Err(Refusal::Short) if !self.whole => self.next_item()?,
+            Ok(None) => self.stop(None)?,
+            Err(why) => self.stop(Some(why))?,
+        }
+        ControlFlow::Continue(None)
+    }
+
+    // The line of a step, and what waited for its answer.
+    fn tell(&mut self, e: Step, length: usize, a: Account) -> ControlFlow<()> {
+        self.records = self.records.wrapping_add(1);
+        self.refused = self.refused.wrapping_add(u64::from(a.code != 0));
+        self.bytes = self.bytes.wrapping_add(length as u64);
+        self.script.pass(length);
+        self.last = Last::Step {
+            reason: a.reason,
+            index: a.place.index,
+        };
+        self.answer = Answer {
+            code: a.code,
+            lines: a.lines,
+            word: a.word,
+        };
+        self.store(wording::line(self.records, e, a));
+        self.check_pending()
+    }
+
+    fn turn(&mut self, z: &mut Controller) -> ControlFlow<()> {
+        if let Some((step, length)) = self.next()? {
+            let a = controller::step(*z, step);
+            let account = account::account_of(*z, step, a);
+            *z = a.controller;
+            self.tell(step, length, account)?;
+        }
+        ControlFlow::Continue(())
+    }
+
+    fn run(&mut self) {
+        let mut z = controller::reset();
+        self.store(wording::head());
+        // A proved loop has to end, and nothing says that the input does: no run uses so many turns up.
+        let _ = (0..u64::MAX).try_for_each(|_| self.turn(&mut z));
+        let _ = self.flush();
+    }
+}
+
+// How long the next item is, or its head.
+fn item_length(rest: &[u8]) -> usize {
+    match rest {
+        [_, low, high, ..] => HEAD + usize::from(u16::from_le_bytes([*low, *high])),
+        _ => HEAD,
+    }
 }
 
 // ---- the program
 
-fn begun(lesson: bool) -> Progress {
-    Progress {
-        records: 0,
-        refused: 0,
-        bytes: 0,
-        text: 0,
-        going: true,
-        place: 0,
-        filled: 0,
-        ended: false,
-        failed: false,
-        start: 0,
-        end: 0,
-        whole: false,
-        length: 0,
-        lesson: lesson,
-        stopped: false,
-        of: NOTHING,
-        code: 0,
-        lines: 0,
-        word: 0,
-        reason: 0,
-        index: 0,
-        unsaid: false,
-        line: 0,
-        expected: 0,
-        checked: 0,
-        failures: 0,
-    }
+// Whether the input is the items of a lesson.
+fn is_lesson(rt: &impl Env) -> Result<bool, ArgumentsError> {
+    let mut text = [0; 4096];
+    let given = command_line::argument(rt, &mut text);
+    command_line::asked_for(given, &text, b"--expects")
 }
 
 // Other arguments are told, and nothing is traced.
 fn main(rt: HostRuntime) {
-    let mut argument = io::buffer();
-    let given = command_line::arguments(&rt, &mut argument);
-    let lesson = match command_line::asked_for(given, &argument, b"--expects") {
-        Asked::Nothing => false,
-        Asked::Word => true,
-        Asked::Other => {
-            complain(b"usage: trace [--expects]\n");
-            return;
+    match is_lesson(&rt) {
+        Ok(lesson) => Session::begun(&rt, lesson).run(),
+        Err(_) => {
+            let _ = eprintln!(rt; "usage: trace [--expects]");
         }
-    };
-    let mut space = io::large_buffer();
-    let mut out = io::large_buffer();
-    run(begun(lesson), &mut rt.stdin(), &mut space, &mut out);
+    }
 }
