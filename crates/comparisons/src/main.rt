@@ -136,7 +136,7 @@ impl Session {
     // A record that can't be read; where reading failed the script may just break off inside it.
     fn refuse_record(&mut self, why: Refusal) -> ControlFlow<()> {
         if why != Refusal::Short || self.input.source() != Source::Failed {
-            let f = account::faults::fault_in(u8::from(why), self.input.unread());
+            let f = account::faults::fault_in(why, self.input.unread());
             let record = self.counts.records.wrapping_add(1);
             self.complain(wording::complaint(b"comparisons", record, self.counts.bytes, f));
         }

@@ -73,10 +73,7 @@ impl Session {
         let n = rest.len().min(LONGEST_RECORD);
         let mut l = phrases::bytes(Line::empty(), &rest[..n]);
         if let Some(why) = why {
-            l = wording::fault(
-                l.put(b" # "),
-                account::faults::fault_in(u8::from(why), rest),
-            );
+            l = wording::fault(l.put(b" # "), account::faults::fault_in(why, rest));
         }
         self.tell(l, n)
     }

@@ -34,10 +34,10 @@ impl Session {
     // What the last answer is.
     fn with_answer(&self, l: Line) -> Line {
         match self.last {
-            Last::Unread => wording::fault(l, self.fault()),
+            Last::Unread(why) => wording::fault(l, self.fault(why)),
             Last::Opening => wording::unopened(l),
-            Last::Step { reason, index } if self.answer.code != 0 => {
-                wording::refused(l, self.answer.code, reason, index)
+            Last::Step(reason) if self.answer.code != 0 => {
+                wording::refused(l, self.answer.code, reason)
             }
             _ => with_word(l, self.answer.word),
         }
@@ -77,7 +77,9 @@ impl Session {
         let answered = !matches!(self.last, Last::Nothing | Last::Behind);
         if answered && x.holds(self.answer) {
             self.checked = self.checked.wrapping_add(1);
-            self.unsaid = self.unsaid && x.response.is_none();
+            if x.response.is_some() {
+                self.unsaid = None;
+            }
             return ControlFlow::Continue(());
         }
         self.tell_unsaid();

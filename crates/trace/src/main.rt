@@ -5,6 +5,7 @@
 
 use account::Account;
 use account::faults::Fault;
+use account::reasons::Reason;
 use arrayvec::ArrayVec;
 use command_line::ArgumentsError;
 use expected::Expected;
@@ -14,6 +15,7 @@ use std::io::{Stderr, Stdin, Stdout};
 use std::ops::ControlFlow;
 use stream::{Input, Source};
 use text::Line;
+use wording::Stop;
 
 mod checks; // what is expected, and what came
 
@@ -36,19 +38,19 @@ const EXPECTATION_LENGTH: usize = HEAD + 16;
 const ENOUGH_TEXT: usize = 61440;
 
 // What the last answer is of: of nothing yet, of a step, of a record that can't be read, of another opening than a reset, of
-// something behind the stop of the script. Of a refused step the number of the reason and of its mailbox or bank.
+// something behind the stop of the script.
 #[derive(Clone, Copy)]
 enum Last {
     Nothing,
-    Step { reason: u32, index: u32 },
-    Unread,
+    Step(Option<Reason>),
+    Unread(Refusal),
     Opening,
     Behind,
 }
 
 // The records so far, how many of them were refused, the bytes that they take; the text that waits. What is not used yet of the items
 // and, out of these, of the script, which begins with the next record; `whole`: nothing follows it. The last answer; `unsaid`: that a
-// record can't be read is still to be told. What a line with a number expects of a record that isn't whole yet; the expectations that
+// record can't be read, which is still to be told. What a line with a number expects of a record that isn't whole yet; the expectations that
 // were checked and those that failed.
 #[derive(Drop)]
 struct Session {
@@ -63,7 +65,7 @@ struct Session {
     stopped: bool,
     last: Last,
     answer: Answer,
-    unsaid: bool,
+    unsaid: Option<Refusal>,
     pending: Option<(u64, Expected)>,
     checked: u64,
     failures: u64,
@@ -90,7 +92,7 @@ impl Session {
                 lines: 0,
                 word: 0,
             },
-            unsaid: false,
+            unsaid: None,
             pending: None,
             checked: 0,
             failures: 0,
@@ -138,16 +140,16 @@ impl Session {
     // ---- the script
 
     // What is wrong with the record at its front.
-    fn fault(&self) -> Fault {
-        account::faults::fault_in(self.answer.code, self.script.unread())
+    fn fault(&self, why: Refusal) -> Fault {
+        account::faults::fault_in(why, self.script.unread())
     }
 
     // That a record can't be read is told once it is known that no line expects it.
     fn tell_unsaid(&mut self) {
-        if self.unsaid {
+        if let Some(why) = self.unsaid.take() {
             let n = self.records.wrapping_add(1);
-            self.complain(wording::complaint(b"trace", n, self.bytes, self.fault()));
-            self.unsaid = false;
+            let f = self.fault(why);
+            self.complain(wording::complaint(b"trace", n, self.bytes, f));
         }
     }
 
@@ -166,7 +168,7 @@ impl Session {
     }
 
     // The last line, behind one that is begun. A lesson is read on for what it expects.
-    fn stop_with(&mut self, l: Line, why: u32) -> ControlFlow<()> {
+    fn stop_with(&mut self, l: Line, why: Stop) -> ControlFlow<()> {
         let last = wording::last(l, why, self.bytes, self.records, self.refused);
         self.store(last);
         self.stopped = true;
@@ -183,7 +185,7 @@ impl Session {
         self.complain(wording::unopened_complaint(b"trace", self.script.unread()));
         self.last = Last::Opening;
         self.answer.code = u8::from(Refusal::NotOpened);
-        self.stop_with(wording::unopened_line(self.answer.lines), 0)
+        self.stop_with(wording::unopened_line(self.answer.lines), Stop::Refused)
     }
 
     // The end, or a record that can't be read; where reading failed the script may just break off inside it.
@@ -194,18 +196,25 @@ impl Session {
         let failed = self.has_failed();
         match refusal {
             Some(why) if !(failed && why == Refusal::Short) => {
-                self.last = Last::Unread;
+                self.last = Last::Unread(why);
                 self.answer.code = u8::from(why);
                 self.answer.word = 0;
-                self.unsaid = true;
+                self.unsaid = Some(why);
                 if !self.lesson {
                     self.tell_unsaid();
                 }
                 let n = self.records.wrapping_add(1);
-                let l = wording::unread_line(n, self.bytes, self.fault(), self.answer.lines);
-                self.stop_with(l, 0)
+                let l = wording::unread_line(n, self.bytes, self.fault(why), self.answer.lines);
+                self.stop_with(l, Stop::Refused)
             }
-            _ => self.stop_with(Line::empty(), if failed { 2 } else { 1 }),
+            _ => self.stop_with(
+                Line::empty(),
+                if failed {
+                    Stop::InputFailed
+                } else {
+                    Stop::Ended
+                },
+            ),
         }
     }
 
@@ -324,10 +333,7 @@ impl Session {
         self.refused = self.refused.wrapping_add(u64::from(a.code != 0));
         self.bytes = self.bytes.wrapping_add(length as u64);
         self.script.pass(length);
-        self.last = Last::Step {
-            reason: a.reason,
-            index: a.place.index,
-        };
+        self.last = Last::Step(a.reason);
         self.answer = Answer {
             code: a.code,
             lines: a.lines,
