@@ -5,7 +5,8 @@ use Prim.Native.Nat.{ℕ, zero, suc, ◌+◌, ◌*◌, ◌<◌, ◌≤◌}
 use native.Mathlib.Numerals.{add-one}
 use native.Mathlib.Omega.{arith}
 use lib.ListN.{length, get_or, take, drop}
-use lib.Seq.{sets, take-suc, take_all, length-take-le, ext_get_or, get_or-drop}
+use lib.Seq.{sets, take-suc, length-take-le, ext_get_or, get_or-drop}
+use Rattle.std.specs.Int.{to_le_bytes, w32}
 use Rattle.model.specs.Script.{number32}
 use Rattle.block.specs.Block.{bytes32, word_bytes, banks_bytes, words_of}
 use Rattle.block.proofs.Stores.{sets-append}
@@ -23,19 +24,17 @@ word_bytes-last [] w = refl
 word_bytes-last (x ∷ l) w = ap (λ (r : List ℕ). bytes32 x ++ r) (word_bytes-last l w)
 
 -- one word more
-pub word_more : (v b : List ℕ) (j : ℕ) → j < length v
-    → sets (sets b 242 (word_bytes (take j v))) (242 + 4 * j) (bytes32 (get_or v j 0)) ≡ sets b 242 (word_bytes (take (j + 1) v))
-word_more v b j h =
+pub word_more : (v b : List ℕ) (i j : ℕ) → j < length v
+    → sets (sets b i (word_bytes (take j v))) (i + 4 * j) (to_le_bytes w32 (get_or v j 0)) ≡ sets b i (word_bytes (take (j + 1) v))
+word_more v b i j h =
     let n : length (take j v) ≡ j = length-take-le j v (omega arith) in
-    sets-append (word_bytes (take j v)) (bytes32 (get_or v j 0)) b 242 (242 + 4 * j) (omega (arith, word_bytes-length (take j v)))
-    ∙ ap (λ (r : List ℕ). sets b 242 r) (sym (word_bytes-last (take j v) (get_or v j 0)) ∙ ap word_bytes (sym (take-suc v j 0 h) ∙ ap (λ (k : ℕ). take k v) (sym (add-one j))))
+    sets-append (word_bytes (take j v)) (bytes32 (get_or v j 0)) b i (i + 4 * j) (omega (arith, word_bytes-length (take j v)))
+    ∙ ap (λ (r : List ℕ). sets b i r) (sym (word_bytes-last (take j v) (get_or v j 0)) ∙ ap word_bytes (sym (take-suc v j 0 h) ∙ ap (λ (k : ℕ). take k v) (sym (add-one j))))
 
 -- the whole field
-pub banks-whole : (v b : List ℕ) (j : ℕ) → j ≡ length v → sets (sets b 239 (0x49 ∷ 112 ∷ 0 ∷ [])) 242 (word_bytes (take j v)) ≡ sets b 239 (banks_bytes v)
+pub banks-whole : (v b : List ℕ) → sets (sets b 239 (0x49 ∷ 112 ∷ 0 ∷ [])) 242 (word_bytes v) ≡ sets b 239 (banks_bytes v)
 unfolding banks_bytes
-banks-whole v b j e =
-    ap (λ (r : List ℕ). sets (sets b 239 (0x49 ∷ 112 ∷ 0 ∷ [])) 242 (word_bytes r)) (take_all j v (omega arith))
-    ∙ sets-append (0x49 ∷ 112 ∷ 0 ∷ []) (word_bytes v) b 239 242 refl
+banks-whole v b = sets-append (0x49 ∷ 112 ∷ 0 ∷ []) (word_bytes v) b 239 242 refl
 
 -- ---- read
 

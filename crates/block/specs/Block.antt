@@ -64,6 +64,9 @@ order_byte2 (One a) = 3
 order_byte2 (Two a b) = 3
 order_byte2 (Three a b c) = number c
 
+abbrev pub order_bytes : RequestOrder → List ℕ
+order_bytes o = order_byte0 o ∷ order_byte1 o ∷ order_byte2 o ∷ []
+
 unfoldable pub order_at : ℕ → ℕ → ℕ → RequestOrder
 order_at a b c =
     pick (eqb a 3) Empty

@@ -5,18 +5,19 @@ use mathlib.Core.Path.{◌≡◌, refl, sym, ap, ◌∙◌}
 use Prim.Native.Nat.{ℕ}
 use lib.ListN.{length, drop}
 use borrow.Author.Tests.{eq-eqb, ne_eqb}
+use Rattle.std.proofs.Common.{Result, Ok, Err}
 use Rattle.base.specs.Base.{pick}
 use Rattle.base.proofs.Choices.{Is, Not, and-not}
-use Rattle.model.specs.Registers.{reset}
+use Rattle.model.specs.Refusals.{code_of}
 use Rattle.model.specs.declared.Core.{Core}
 use Rattle.model.specs.declared.Controller.{Controller}
+use Rattle.model.specs.declared.Refusal.{Refusal}
+use Rattle.model.specs.declared.Refusal.TheVariants.{BadBlock}
 use Rattle.ranges.specs.Ranges.{in_range}
 use Rattle.block.specs.Block.{block_length, core_at, words_of, decoded, canonical}
 use Rattle.block.specs.Loading.{right_length, accepts, load_code, core_loaded, banks_loaded, loaded}
-use Rattle.block.proofs.Exactly.{code-zero, accepted-length}
-use Rattle.block_load.specs.Loaded.{refused, loaded_core, loaded_whole}
-use Rattle.block_load.specs.declared.LoadedCore.{LoadedCore}
-use Rattle.block_load.specs.declared.Loaded.{Loaded}
+use Rattle.block.proofs.Exactly.{accepted-length}
+use Rattle.block_load.specs.Loaded.{loaded_core, loaded_whole, Coded}
 
 -- ---- a block that is not accepted
 
@@ -32,32 +33,49 @@ pub unranged : (b : List ℕ) (c : Core) → c ≡ core_at b → Not (in_range c
 unfolding accepts
 unranged b c e h = and-not (right_length b) _ (and-not (canonical b) _ (ap in_range (sym e) ∙ h))
 
-pub gives_reset : (b : List ℕ) → Not (accepts b) → refused ≡ loaded_core b
-unfolding loaded_core core_loaded load_code
-gives_reset b h = rw h
+pub gives_none : (b : List ℕ) → Not (accepts b) → Err BadBlock ≡ loaded_core b
+unfolding loaded_core
+gives_none b h = rw h
 
 -- ---- one that is
 
-pub gives_core : (b : List ℕ) (c : Core) → length b ≡ block_length → Is (canonical b) → c ≡ core_at b → Is (in_range c) → ◌≡◌ {A = LoadedCore} (record { core = c; code = 0 }) (loaded_core b)
-unfolding loaded_core core_loaded load_code accepts right_length
+pub gives_core : (b : List ℕ) (c : Core) → length b ≡ block_length → Is (canonical b) → c ≡ core_at b → Is (in_range c) → Ok c ≡ loaded_core b
+unfolding loaded_core core_loaded accepts right_length
 gives_core b c n f e h =
     let k : Is (in_range (core_at b)) = ap in_range (sym e) ∙ h in
     rw (eq-eqb (length b) block_length n, f, k, e)
 
 -- ---- the whole, from the core that was loaded and the words of the banks
 
-pub code_other : (t : Bool) (n : ℕ) → n ≡ pick t 0 10 → (n ≡ 0 → ⊥) → Not t
-code_other true n e h = absurd (h e)
-code_other false n e h = refl
+-- what a core that was loaded says of the block
+pub was_accepted : (b : List ℕ) (c : Core) → Ok c ≡ loaded_core b → Is (accepts b) × (c ≡ core_loaded b)
+unfolding loaded_core
+was_accepted b c e = go (accepts b) refl e
+  where
+    go : (t : Bool) → accepts b ≡ t → Ok c ≡ pick t (Ok (core_loaded b)) (Err BadBlock) → Is (accepts b) × (c ≡ core_loaded b)
+    go true h p = (h, cc)
+    go false h p = absurd (cc)
 
-pub whole-reset : (b : List ℕ) (l : LoadedCore) (z : Controller) → l ≡ loaded_core b → (l.code ≡ 0 → ⊥) → z ≡ reset → ◌≡◌ {A = Loaded} (record { controller = z; code = 10 }) (loaded_whole b)
-unfolding loaded_core loaded_whole load_code loaded
-whole-reset b l z p h e = rw (code_other (accepts b) l.code (ap (λ (x : LoadedCore). x.code) p) h, e)
+pub whole_none : (b : List ℕ) (r : Refusal) → Err r ≡ loaded_core b → Err r ≡ loaded_whole b
+unfolding loaded_core loaded_whole
+whole_none b r e = go (accepts b) e
+  where
+    go : (t : Bool) → Err r ≡ pick t (Ok (core_loaded b)) (Err BadBlock) → Err r ≡ pick t (Ok (loaded b)) (Err BadBlock)
+    go true p = absurd (cc)
+    go false p = cc
 
-pub whole-loaded : (b : List ℕ) (l : LoadedCore) (v : List ℕ) → l ≡ loaded_core b → l.code ≡ 0 → v ≡ banks_loaded b → ◌≡◌ {A = Loaded} (record { controller = record { core = l.core; banks = v }; code = 0 }) (loaded_whole b)
-unfolding loaded_core loaded_whole load_code core_loaded banks_loaded loaded decoded right_length
-whole-loaded b l v p h q =
-    let a : Is (accepts b) = code-zero (accepts b) (sym (ap (λ (x : LoadedCore). x.code) p) ∙ h) in
-    let c : l.core ≡ core_at b = ap (λ (x : LoadedCore). x.core) p ∙ rw a in
+pub whole-loaded : (b : List ℕ) (c : Core) (v : List ℕ) → Ok c ≡ loaded_core b → v ≡ banks_loaded b → Ok (record { core = c; banks = v }) ≡ loaded_whole b
+unfolding loaded_whole core_loaded banks_loaded loaded decoded right_length
+whole-loaded b c v p q =
+    let a : Is (accepts b) = (was_accepted b c p).0 in
+    let k : c ≡ core_at b = (was_accepted b c p).1 ∙ rw a in
     let w : v ≡ words_of 28 (drop 242 b) = q ∙ rw (eq-eqb (length b) block_length (accepted-length b a)) in
-    rw (a, c, w)
+    rw (a, k, w)
+
+coded_by : {A : Type 0} (t : Bool) (a : A) → code_of (pick t (Ok a) (Err BadBlock)) ≡ pick t 0 10
+coded_by true a = refl
+coded_by false a = refl
+
+pub coded : (b : List ℕ) → Coded b
+unfolding loaded_core loaded_whole load_code
+coded b = record { core = coded_by (accepts b) (core_loaded b); whole = coded_by (accepts b) (loaded b) }

@@ -1,18 +1,23 @@
--- What loading gives, as the structs that come back. Document 02: Q-2.
-use Rattle.std.specs.Prelude.{List, ℕ}
-use Rattle.model.specs.Registers.{reset}
+-- What loading gives: the state in a block that is accepted, or the refusal. Document 02: Q-2.
+use Rattle.std.specs.Prelude.{List, ◌≡◌, ℕ, Result, Ok, Err}
+use Rattle.base.specs.Base.{pick}
+use Rattle.model.specs.Refusals.{code_of}
+use Rattle.model.specs.declared.Core.{Core}
+use Rattle.model.specs.declared.Controller.{Controller}
+use Rattle.model.specs.declared.Refusal.{Refusal}
+use Rattle.model.specs.declared.Refusal.TheVariants.{BadBlock}
 use Rattle.block.specs.Loading as block
-use Rattle.block_load.specs.declared.LoadedCore.{LoadedCore}
-use Rattle.block_load.specs.declared.Loaded.{Loaded}
 
-abbrev pub refused : LoadedCore
-refused = record { core = reset.core; code = 10 }
-
-unfoldable pub loaded_core : List ℕ → LoadedCore
-loaded_core b = record { core = block.core_loaded b; code = block.load_code b }
+unfoldable pub loaded_core : List ℕ → Result Core Refusal
+loaded_core b = pick (block.accepts b) (Ok (block.core_loaded b)) (Err BadBlock)
 
 abbrev pub banks_loaded : List ℕ → List ℕ
 banks_loaded b = block.banks_loaded b
 
-unfoldable pub loaded_whole : List ℕ → Loaded
-loaded_whole b = record { controller = block.loaded b; code = block.load_code b }
+unfoldable pub loaded_whole : List ℕ → Result Controller Refusal
+loaded_whole b = pick (block.accepts b) (Ok (block.loaded b)) (Err BadBlock)
+
+-- both are refused by the code of the definition
+pub record Coded (b : List ℕ) : Type 0 where
+  pub core : code_of (loaded_core b) ≡ block.load_code b
+  pub whole : code_of (loaded_whole b) ≡ block.load_code b

@@ -1,15 +1,19 @@
 -- The core, and then the banks' field behind it: the whole block.
-use mathlib.Core.Bool.{Bool, true, false}
-use mathlib.Core.List.{List, ◌++◌, append-nil}
+use mathlib.Core.Bool.{Bool, true, false, false≢true}
+use mathlib.Core.List.{List, ◌++◌}
 use mathlib.Core.Path.{◌≡◌, refl, sym, ap, ◌∙◌}
 use Prim.Native.Nat.{ℕ}
 use native.Mathlib.Omega.{arith}
 use lib.Dec.{eqb}
-use lib.ListN.{length, drop, replicate}
-use lib.Seq.{sets, length-sets, drop-length}
+use lib.ListN.{length}
+use lib.Seq.{sets, length-sets}
 use borrow.Author.Tests.{eqb-true}
+use Rattle.base.specs.Base.{pick}
+use Rattle.model.specs.Refusals.{code}
+use Rattle.model.specs.declared.Refusal.{Refusal}
 use Rattle.model.specs.declared.Core.{Core}
 use Rattle.model.specs.declared.Controller.{Controller}
+use Rattle.model.proofs.RefusalNumbers.{refused}
 use Rattle.block.specs.Block.{block_length, core_bytes, banks_bytes, saved}
 use Rattle.block.specs.Loading.{right_length, save_code, saved_over, core_saved_over, banks_saved_over}
 use Rattle.block.proofs.Lengths.{core-length, saved-length}
@@ -42,7 +46,13 @@ pub code-kept : (b : List ℕ) (c : Core) → save_code (core_saved_over b c) �
 unfolding save_code
 code-kept b c = rw (same_size b c)
 
--- all zeros behind the last turn
-pub filled : (b d : List ℕ) (i : ℕ) → b ≡ replicate i 0 ++ drop i d → i ≡ length d → b ≡ replicate (length d) 0
-filled b d i e n =
-    e ∙ ap (λ (k : ℕ). replicate k 0 ++ drop k d) n ∙ ap (λ (r : List ℕ). replicate (length d) 0 ++ r) (drop-length d) ∙ append-nil (replicate (length d) 0)
+-- a refusal is one for the length, and then the block stays
+pub refused_left : (b : List ℕ) (c : Core) (z : Controller) (r : Refusal) → code r ≡ save_code b → core_saved_over b c ≡ saved_over b z
+unfolding save_code core_saved_over saved_over
+refused_left b c z r e = go (right_length b) refl
+  where
+    go : (t : Bool) → right_length b ≡ t → core_saved_over b c ≡ saved_over b z
+    go true h =
+        let k : code r ≡ 0 = e ∙ ap (λ (t : Bool). pick t 0 10) h in
+        absurd (false≢true (sym (refused r) ∙ ap (λ (n : ℕ). eqb n 0) k))
+    go false h = rw h

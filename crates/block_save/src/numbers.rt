@@ -1,72 +1,30 @@
-// Numbers, low byte first, and flags to lent bytes. Here alone bytes are stored.
-ghost use Rattle.std.specs.Prelude.{◌≡◌, [], ◌∷◌, ◌+◌, ◌≤◌, length};
+// Bytes, words low byte first, and flags to lent bytes. Here alone bytes are stored.
+ghost use Rattle.std.specs.Prelude.{◌≡◌, ◌+◌, ◌*◌, ◌≤◌, length, map};
 ghost use Rattle.std.proofs.lemmas.List.Edits.{sets};
 ghost use Rattle.base.specs.Base as base;
 ghost use Rattle.block.specs.Block as blocks;
 
-pub(crate) fn flag_byte(x: bool) -> u8
-    ensures { result ≡ base.one x }
+pub(crate) fn put<const N: usize>(b: &mut [u8], i: usize, bytes: [u8; N])
+    requires { i + N ≤ length b.old }
+    ensures { b.new ≡ sets b.old i bytes.entry }
 {
-    if x { 1 } else { 0 }
+    b[i..i + N].copy_from_slice(&bytes);
 }
 
-pub(crate) fn put1(b: &mut [u8], i: usize, x0: u8)
-    requires { i + 1 ≤ length b.old }
-    ensures { b.new ≡ sets b.old i (x0 ∷ []) }
+pub(crate) fn put_words<const N: usize>(b: &mut [u8], i: usize, words: [u32; N])
+    requires { i + 4 * N ≤ length b.old }
+    ensures { b.new ≡ sets b.old i (blocks.word_bytes words.entry) }
 {
-    b[i] = x0;
+    for (k, w) in words.iter().enumerate() {
+        put(b, i + 4 * k, w.to_le_bytes());
+    }
 }
 
-pub(crate) fn put2(b: &mut [u8], i: usize, x0: u8, x1: u8)
-    requires { i + 2 ≤ length b.old }
-    ensures { b.new ≡ sets b.old i (x0 ∷ x1 ∷ []) }
+pub(crate) fn put_flags<const N: usize>(b: &mut [u8], i: usize, flags: [bool; N])
+    requires { i + N ≤ length b.old }
+    ensures { b.new ≡ sets b.old i (map base.one flags.entry) }
 {
-    let i1 = i + 1;
-    b[i] = x0;
-    b[i1] = x1;
-}
-
-pub(crate) fn put3(b: &mut [u8], i: usize, x0: u8, x1: u8, x2: u8)
-    requires { i + 3 ≤ length b.old }
-    ensures { b.new ≡ sets b.old i (x0 ∷ x1 ∷ x2 ∷ []) }
-{
-    let i1 = i + 1;
-    let i2 = i + 2;
-    b[i] = x0;
-    b[i1] = x1;
-    b[i2] = x2;
-}
-
-pub(crate) fn put4(b: &mut [u8], i: usize, x0: u8, x1: u8, x2: u8, x3: u8)
-    requires { i + 4 ≤ length b.old }
-    ensures { b.new ≡ sets b.old i (x0 ∷ x1 ∷ x2 ∷ x3 ∷ []) }
-{
-    let i1 = i + 1;
-    let i2 = i + 2;
-    let i3 = i + 3;
-    b[i] = x0;
-    b[i1] = x1;
-    b[i2] = x2;
-    b[i3] = x3;
-}
-
-pub(crate) fn put16(b: &mut [u8], i: usize, n: u16)
-    requires { i + 2 ≤ length b.old }
-    ensures { b.new ≡ sets b.old i (blocks.bytes16 n) }
-{
-    put2(b, i, (n % 256) as u8, ((n >> 8) % 256) as u8);
-}
-
-pub(crate) fn put32(b: &mut [u8], i: usize, n: u32)
-    requires { i + 4 ≤ length b.old }
-    ensures { b.new ≡ sets b.old i (blocks.bytes32 n) }
-{
-    put4(
-        b,
-        i,
-        (n % 256) as u8,
-        ((n >> 8) % 256) as u8,
-        ((n >> 16) % 256) as u8,
-        ((n >> 24) % 256) as u8,
-    );
+    for (k, f) in flags.iter().enumerate() {
+        b[i + k] = u8::from(*f);
+    }
 }

@@ -1,16 +1,24 @@
 -- A refusal at each test, or the core.
-use mathlib.Core.Path.{sym, ◌∙◌}
-use Rattle.block_load.proofs.Loads.{short, unformed, unranged, gives_reset, gives_core}
+use mathlib.Core.Path.{sym, ap, ◌∙◌}
+use Rattle.block.specs.Block.{core_at, canonical}
+use Rattle.block_load.proofs.Loads.{short, unformed, unranged, gives_none, gives_core}
 use Rattle.block_load.proofs.load_core.Goals as goal
 
-pub returns-then-b-ne354 : goal.returns-then-b-ne354
-returns-then-b-ne354 c = c.refused.ensures ∙ gives_reset _ (short c.args.b.now c.if-b-ne354.true)
+pub returns-in_default : goal.returns-in_default
+returns-in_default c = gives_none _ (short c.args.b.now c.in_default.ensures.1)
 
 pub returns-then-not-canonical : goal.returns-then-not-canonical
-returns-then-not-canonical c = c.refused-then-not-canonical.ensures ∙ gives_reset _ (unformed c.args.b.now (sym c.canonical.ensures ∙ c.if-not-canonical.true))
+returns-then-not-canonical c =
+    let same = c.in-Ok.ensures.1.same in
+    gives_none _ (unformed c.args.b.now (ap canonical (sym same) ∙ sym c.canonical.ensures ∙ c.if-not-canonical.true))
 
 pub returns-then-not-in_range : goal.returns-then-not-in_range
-returns-then-not-in_range c = c.refused-then-not-in_range.ensures ∙ gives_reset _ (unranged c.args.b.now _ c.core_at-c.ensures (sym c.in_range.ensures ∙ c.if-not-in_range.true))
+returns-then-not-in_range c =
+    let same = c.in-Ok.ensures.1.same in
+    gives_none _ (unranged c.args.b.now _ (c.core_at-core.ensures ∙ ap core_at same) (sym c.in_range.ensures ∙ c.if-not-in_range.true))
 
 pub returns : goal.returns
-returns c = gives_core c.args.b.now _ c.if-b-ne354.false (sym c.canonical.ensures ∙ c.if-not-canonical.false) c.core_at-c.ensures (sym c.in_range.ensures ∙ c.if-not-in_range.false)
+returns c =
+    let same = c.in-Ok.ensures.1.same in
+    gives_core c.args.b.now _ c.in-Ok.ensures.1.long (ap canonical (sym same) ∙ sym c.canonical.ensures ∙ c.if-not-canonical.false) (c.core_at-core.ensures ∙ ap core_at same)
+    (sym c.in_range.ensures ∙ c.if-not-in_range.false)

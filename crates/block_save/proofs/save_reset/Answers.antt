@@ -4,8 +4,8 @@ use Rattle.block_save.proofs.save_reset.Goals as goal
 
 pub returns-then-b-ne354 : goal.returns-then-b-ne354
 unfolding right_length save_code saved_over
-returns-then-b-ne354 c = let e = ne_eqb _ _ c.if-b-ne354.true in (rw e, rw e)
+returns-then-b-ne354 c = let e = ne_eqb _ _ c.if-b-ne354.true in record { code = rw e; block = rw e }
 
 pub returns : goal.returns
 unfolding right_length save_code saved_over
-returns c = let e = eq-eqb _ _ c.if-b-ne354.false in (rw e, rw (e, c.put_reset.ensures))
+returns c = let e = eq-eqb _ _ c.if-b-ne354.false in record { code = rw e; block = rw (e, c.put_reset.ensures) }

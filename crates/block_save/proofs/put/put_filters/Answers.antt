@@ -1,6 +1,6 @@
-use Rattle.block.specs.Block.{filters_bytes}
+use Rattle.block.specs.Block.{filters_bytes, word_bytes}
 use Rattle.block_save.proofs.put.put_filters.Goals as goal
 
 pub returns : goal.returns
-unfolding filters_bytes
-returns c = rw (c.put1.ensures, c.flag_byte.ensures, c.put_words4.ensures, c.put3.ensures)
+unfolding filters_bytes word_bytes
+returns c = rw (c.put_flags.ensures, c.put_words.ensures, c.put.ensures)

@@ -1,0 +1,6 @@
+use borrow.Author.Rules.{rules}
+use Rattle.block_save.proofs.Stored.{stored}
+use Rattle.block_save.proofs.numbers.put.Goals as goal
+
+pub returns : goal.returns
+returns g c = stored c.args.b.now c.args.bytes _ c.args.i g.row.N c.copy_from_slice.ensures.after (search rules) c.requires
