@@ -56,6 +56,15 @@ was_accepted b c e = go (accepts b) refl e
     go true h p = (h, cc)
     go false h p = absurd (cc)
 
+-- what a refusal says of it
+pub was_refused : (b : List ℕ) (r : Refusal) → Err r ≡ loaded_core b → Not (accepts b) × (r ≡ BadBlock)
+unfolding loaded_core
+was_refused b r e = go (accepts b) refl e
+  where
+    go : (t : Bool) → accepts b ≡ t → Err r ≡ pick t (Ok (core_loaded b)) (Err BadBlock) → Not (accepts b) × (r ≡ BadBlock)
+    go true h p = absurd (cc)
+    go false h p = (h, cc)
+
 pub whole_none : (b : List ℕ) (r : Refusal) → Err r ≡ loaded_core b → Err r ≡ loaded_whole b
 unfolding loaded_core loaded_whole
 whole_none b r e = go (accepts b) e

@@ -1,28 +1,33 @@
 -- A call's answer and its block, by the way that it went.
-use mathlib.Core.Bool.{not, ◌&&◌}
+use mathlib.Core.Bool.{Bool, not, ◌&&◌, false≢true}
 use mathlib.Core.List.{List}
-use mathlib.Core.Path.{◌≡◌, sym, ap, ◌∙◌}
+use mathlib.Core.Path.{◌≡◌, refl, sym, ap, ◌∙◌}
 use Prim.Native.Nat.{ℕ}
 use lib.Dec.{eqb}
 use lib.ListN.{length}
 use borrow.Author.Tests.{eq-eqb, ne_eqb}
+use Rattle.std.proofs.Common.{Result, Ok, Err}
+use Rattle.base.specs.Base.{pick}
 use Rattle.base.proofs.Choices.{Is, Not, and-not}
+use Rattle.model.specs.Refusals.{code}
 use Rattle.model.specs.Step.{refusal, step}
 use Rattle.model.specs.Shown.{is_read}
 use Rattle.model.specs.declared.Controller.{Controller}
 use Rattle.model.specs.declared.Stepped.{Stepped}
+use Rattle.model.specs.declared.Refusal.{Refusal}
+use Rattle.model.specs.declared.Core.{Core}
 use Rattle.model.specs.declared.Step as steps
+use Rattle.model.specs.declared.Step.TheVariants.{Reset, Read, Write, Idle, BitTimes, Activity, Start, Outcome, Receive, ReceiveError}
+use Rattle.model.proofs.RefusalNumbers.{refused}
 use Rattle.writes.specs.Places.{changed}
 use Rattle.controller.specs.After.{place_after, core_step, core_step_at, whole, whole-step}
 use Rattle.controller.specs.declared.CoreStepped.{CoreStepped}
 use Rattle.block.specs.Block.{block_length}
-use Rattle.block.specs.Loading.{right_length, accepts, load_code, banks_loaded, loaded, saved_over, core_saved_over, banks_saved_over}
-use Rattle.block.proofs.Exactly.{code-zero, accepted-length}
+use Rattle.block.specs.Loading.{right_length, accepts, banks_loaded, loaded, save_code, saved_over, core_saved_over, banks_saved_over}
+use Rattle.block.proofs.Exactly.{accepted-length}
 use Rattle.block_load.specs.Loaded.{loaded_core, loaded_whole}
-use Rattle.block_load.specs.declared.LoadedCore.{LoadedCore}
-use Rattle.block_load.specs.declared.Loaded as load
-use Rattle.block_load.proofs.Loads.{code_other, whole-loaded}
-use Rattle.block_save.proofs.Over.{over}
+use Rattle.block_load.proofs.Loads.{was_accepted, was_refused, whole-loaded}
+use Rattle.block_save.proofs.Over.{same_size, over}
 use Rattle.capi.specs.Calls.{is_board, takes, packed, answer, changes, block_after}
 
 abbrev pub Gives : ℕ → List ℕ → steps.Step → ℕ → List ℕ → Type 0
@@ -36,24 +41,52 @@ pub no_board : (board : ℕ) (b : List ℕ) (e : steps.Step) → (board ≡ 0 �
 unfolding takes is_board
 no_board board b e h = not_taken board b e (rw (ne_eqb board 0 h))
 
-pub not-loaded : (board : ℕ) (b : List ℕ) (e : steps.Step) (l : LoadedCore) → l ≡ loaded_core b → (l.code ≡ 0 → ⊥) → Gives board b e 10 b
-unfolding takes loaded_core load_code
-not-loaded board b e l p h = not_taken board b e (and-not (is_board board) (accepts b) (code_other (accepts b) l.code (ap (λ (x : LoadedCore). x.code) p) h))
+pub not-loaded : (board : ℕ) (b : List ℕ) (e : steps.Step) (r : Refusal) → Err r ≡ loaded_core b → Gives board b e (code r) b
+unfolding takes
+not-loaded board b e r p =
+    let w = was_refused b r p in
+    let g = not_taken board b e (and-not (is_board board) (accepts b) w.0) in
+    (ap code w.1 ∙ g.0, g.1)
+
+-- a block of the right length is saved to
+never_refused : (r : Refusal) (x : List ℕ) → Is (right_length x) → code r ≡ save_code x → ⊥
+unfolding save_code
+never_refused r x h e =
+    let k : code r ≡ 0 = e ∙ ap (λ (t : Bool). pick t 0 10) h in
+    false≢true (sym (refused r) ∙ ap (λ (n : ℕ). eqb n 0) k)
+
+pub not_read : (e : steps.Step) → ((o : ℕ) → e ≡ Read o → ⊥) → Not (is_read e)
+not_read Reset h = refl
+not_read (Read o) h = absurd (h o refl)
+not_read (Write o w) h = refl
+not_read Idle h = refl
+not_read (BitTimes n) h = refl
+not_read Activity h = refl
+not_read Start h = refl
+not_read (Outcome r) h = refl
+not_read (Receive x) h = refl
+not_read (ReceiveError k n) h = refl
 
 -- ---- a block that is taken, its core, its banks' words, and the step of these
 
-module _ (board : ℕ) (b : List ℕ) (e : steps.Step) (h : board ≡ 0) (l : LoadedCore) (p : l ≡ loaded_core b) (k : l.code ≡ 0) (v : List ℕ) (q : v ≡ banks_loaded b) (s : CoreStepped) (t : s ≡ core_step l.core v e) where
+module _ (board : ℕ) (b : List ℕ) (e : steps.Step) (h : board ≡ 0) (l : Core) (p : Ok l ≡ loaded_core b) (v : List ℕ) (q : v ≡ banks_loaded b) (s : CoreStepped) (t : s ≡ core_step l v e) where
   taken : Is (accepts b)
-  unfolding loaded_core load_code
-  taken = code-zero (accepts b) (sym (ap (λ (x : LoadedCore). x.code) p) ∙ k)
+  taken = (was_accepted b l p).0
+
+  right : Is (right_length b)
+  unfolding right_length
+  right = eq-eqb (length b) block_length (accepted-length b taken)
 
   board_taken : Is (takes board b)
   unfolding takes is_board
   board_taken = rw (eq-eqb board 0 h, taken)
 
-  state : ◌≡◌ {A = Controller} (record { core = l.core; banks = v }) (loaded b)
+  state : ◌≡◌ {A = Controller} (record { core = l; banks = v }) (loaded b)
   unfolding loaded_whole
-  state = ap (λ (x : load.Loaded). x.controller) (whole-loaded b l v p k q)
+  state =
+      let z : Controller = record { core = l; banks = v } in
+      let w : ◌≡◌ {A = Result Controller Refusal} (Ok z) (Ok (loaded b)) = whole-loaded b l v p q ∙ rw taken in
+      cc
 
   stepped : whole (loaded b) s ≡ step (loaded b) e
   stepped = ap (λ (r : CoreStepped). whole (loaded b) r) (t ∙ ap (λ (z : Controller). core_step z.core z.banks e) state) ∙ whole-step (loaded b) e
@@ -64,6 +97,13 @@ module _ (board : ℕ) (b : List ℕ) (e : steps.Step) (h : board ≡ 0) (l : Lo
 
   code_is : s.code ≡ (step (loaded b) e).code
   code_is = ap (λ (r : Stepped). r.code) stepped
+
+  -- neither saving is refused
+  pub core-saved : (r : Refusal) → code r ≡ save_code b → ⊥
+  core-saved r = never_refused r b right
+
+  pub banks-saved : (r : Refusal) (x : List ℕ) → x ≡ core_saved_over b s.core → code r ≡ save_code x → ⊥
+  banks-saved r x k = never_refused r x (ap right_length k ∙ same_size b s.core ∙ right)
 
   -- a refused step leaves the block, and so does a read
   pub refused_leaves : (s.code ≡ 0 → ⊥) → b ≡ block_after board b e
@@ -81,12 +121,8 @@ module _ (board : ℕ) (b : List ℕ) (e : steps.Step) (h : board ≡ 0) (l : Lo
     place_is : s.place ≡ place_after e
     unfolding core_step core_step_at
     place_is =
-        let c : refusal l.core e ≡ 0 = sym (ap (λ (r : CoreStepped). r.code) t) ∙ z in
-        ap (λ (r : CoreStepped). r.place) t ∙ rw (eq-eqb (refusal l.core e) 0 c)
-
-    right : Is (right_length b)
-    unfolding right_length
-    right = eq-eqb (length b) block_length (accepted-length b taken)
+        let c : refusal l e ≡ 0 = sym (ap (λ (r : CoreStepped). r.code) t) ∙ z in
+        ap (λ (r : CoreStepped). r.place) t ∙ rw (eq-eqb (refusal l e) 0 c)
 
     core_is : s.core ≡ (step (loaded b) e).controller.core
     core_is = ap (λ (r : Stepped). r.controller.core) stepped

@@ -1,11 +1,14 @@
 -- The calls from C: a step on the state in a lent block. Document 02: Q-2. The numbers of a step are those that the caller gives, whatever
 -- their width; code, lines and word come back in one number.
-use Rattle.std.specs.Prelude.{Bool, not, ◌&&◌, List, ℕ, ◌+◌, ◌*◌, ◌^◌, eqb}
+use Rattle.std.specs.Prelude.{Bool, not, ◌&&◌, List, ℕ, ◌+◌, ◌*◌, ◌^◌, eqb, Result, Ok, Err}
 use Rattle.std.proofs.lemmas.List.Edits.{sets}
 use Rattle.base.specs.Base.{pick}
 use Rattle.model.specs.Registers.{reset}
 use Rattle.model.specs.Step.{step}
 use Rattle.model.specs.Shown.{is_read}
+use Rattle.model.specs.Refusals.{code}
+use Rattle.model.specs.declared.Answer.{Answer}
+use Rattle.model.specs.declared.Refusal.{Refusal}
 use Rattle.model.specs.declared.Step as steps
 use Rattle.controller.specs.After.{place_after}
 use Rattle.block.specs.Block.{block_length, core_bytes, saved}
@@ -29,6 +32,11 @@ takes board b = is_board board && accepts b
 -- the code in bits 7 to 0, the lines in 15 to 8, the word in 63 to 32
 abbrev pub packed : ℕ → ℕ → ℕ → ℕ
 packed code lines word = code + lines * 256 + word * 2 ^ 32
+
+-- a refusal has lines and word 0
+abbrev pub packed_of : Result Answer Refusal → ℕ
+packed_of (Ok a) = packed a.code a.lines a.word
+packed_of (Err r) = code r
 
 -- a block that is refused: code 10, lines and word 0
 unfoldable pub answer : ℕ → List ℕ → steps.Step → ℕ

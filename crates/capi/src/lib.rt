@@ -2,78 +2,63 @@
 #![tactic(auto)]
 
 ghost use Rattle.std.specs.Prelude.{◌≡◌};
-ghost use Rattle.model.specs.Shown as shown;
 ghost use Rattle.model.specs.declared.Step.TheVariants as steps;
 ghost use Rattle.capi.specs.Calls as calls;
 
-use model::{Frame, Step};
+use model::{Answer, Frame, Refusal, Step};
 
 mod narrow; // narrow.rt: numbers that are too wide for a step, as ones that are refused alike
 
 // The code in bits 7 to 0, the lines in 15 to 8, the word in 63 to 32.
-fn packed(code: u8, lines: u8, word: u32) -> u64
-    ensures { result ≡ calls.packed code lines word }
+fn packed(a: Answer) -> u64
+    ensures { result ≡ calls.packed a.code a.lines a.word }
 {
-    (code as u64) + (lines as u64) * 256 + (word as u64) * 0x100000000
-}
-
-fn is_read(e: Step) -> bool
-    ensures { result ≡ shown.is_read e }
-{
-    match e {
-        Step::Reset => false,
-        Step::Read(_) => true,
-        Step::Write(_, _) => false,
-        Step::Idle => false,
-        Step::BitTimes(_) => false,
-        Step::Activity => false,
-        Step::Start => false,
-        Step::Outcome(_) => false,
-        Step::Receive(_) => false,
-        Step::ReceiveError(_, _) => false,
-    }
+    u64::from(a.code) + u64::from(a.lines) * 256 + u64::from(a.word) * 0x100000000
 }
 
 // One step on the state in a block. What a read or a refused step leaves is not written again.
+fn stepped(board: u32, b: &mut [u8], e: Step) -> Result<Answer, Refusal>
+    ensures answer { calls.packed_of result ≡ calls.answer board b.old e }
+    ensures block { b.new ≡ calls.block_after board b.old e }
+{
+    if board != 0 {
+        return Err(Refusal::BadBlock);
+    }
+    let core = block_load::load_core(b)?;
+    let banks = block_load::load_banks(b);
+    let s = controller::core_step(core, banks, e);
+    let answer = Answer {
+        code: s.code,
+        lines: s.lines,
+        word: s.word,
+    };
+    if s.code != 0 || matches!(e, Step::Read(_)) {
+        return Ok(answer);
+    }
+    block_save::save_core(b, s.core)?;
+    if s.place != 28 {
+        block_save::save_banks(b, writes::banks_after(banks, s.place, s.value))?;
+    }
+    Ok(answer)
+}
+
 fn call(board: u32, b: &mut [u8], e: Step) -> u64
     ensures { (result ≡ calls.answer board b.old e) × (b.new ≡ calls.block_after board b.old e) }
 {
-    if board != 0 {
-        return 10;
+    match stepped(board, b, e) {
+        Ok(answer) => packed(answer),
+        Err(refusal) => u64::from(u8::from(refusal)),
     }
-    let l = block_load::load_core(b);
-    if l.code != 0 {
-        return 10;
-    }
-    let c = l.core;
-    let v = block_load::load_banks(b);
-    let s = controller::core_step(c, v, e);
-    if s.code != 0 {
-        return packed(s.code, s.lines, s.word);
-    }
-    if is_read(e) {
-        return packed(s.code, s.lines, s.word);
-    }
-    let d = s.core;
-    block_save::save_core(b, d);
-    if s.place == 28 {
-        return packed(s.code, s.lines, s.word);
-    }
-    let u = writes::banks_after(v, s.place, s.value);
-    block_save::save_banks(b, u);
-    packed(s.code, s.lines, s.word)
 }
 
 // ---- the calls
 
+#[tactic(auto, unfolding(crate::specs::Calls::is_board, crate::specs::Calls::block_size))]
 #[unsafe(no_mangle)]
 pub extern "C" fn bxcan_block_size(board: u32) -> usize
     ensures { result ≡ calls.block_size board }
 {
-    if board == 0 {
-        return 354;
-    }
-    0
+    if board == 0 { 354 } else { 0 }
 }
 
 #[unsafe(no_mangle)]
@@ -81,9 +66,12 @@ pub extern "C" fn bxcan_reset(board: u32, block: &mut [u8]) -> u64
     ensures { (result ≡ calls.reset_answer board block.old) × (block.new ≡ calls.block_reset board block.old) }
 {
     if board != 0 {
-        return 10;
+        return Refusal::BadBlock as u64;
     }
-    block_save::save_reset(block) as u64
+    match block_save::save_reset(block) {
+        Ok(()) => 0,
+        Err(refusal) => u64::from(u8::from(refusal)),
+    }
 }
 
 #[unsafe(no_mangle)]
@@ -146,13 +134,13 @@ pub extern "C" fn bxcan_frame(
 ) -> u64
     ensures { (result ≡ calls.answer board block.old (steps.Receive (record { identifier = identifier; low = data_low; high = data_high; length = length }))) × (block.new ≡ calls.block_after board block.old (steps.Receive (record { identifier = identifier; low = data_low; high = data_high; length = length }))) }
 {
-    let x = Frame {
-        identifier: identifier,
+    let frame = Frame {
+        identifier,
         low: data_low,
         high: data_high,
         length: narrow::byte(length),
     };
-    call(board, block, Step::Receive(x))
+    call(board, block, Step::Receive(frame))
 }
 
 #[unsafe(no_mangle)]

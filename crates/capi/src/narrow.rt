@@ -3,29 +3,23 @@
 ghost use Rattle.std.specs.Prelude.{◌≡◌};
 ghost use Rattle.capi.specs.Narrow as narrow;
 
+#[tactic(auto, unfolding(crate::specs::Narrow::offset))]
 pub(crate) fn offset(n: u32) -> u16
     ensures { result ≡ narrow.offset n }
 {
-    if 65535 < n {
-        return 65535;
-    }
-    n as u16
+    u16::try_from(n).unwrap_or(u16::MAX)
 }
 
+#[tactic(auto, unfolding(crate::specs::Narrow::count))]
 pub(crate) fn count(n: u32) -> u16
     ensures { result ≡ narrow.count n }
 {
-    if 65535 < n {
-        return 0;
-    }
-    n as u16
+    u16::try_from(n).unwrap_or(0)
 }
 
+#[tactic(auto, unfolding(crate::specs::Narrow::byte))]
 pub(crate) fn byte(n: u32) -> u8
     ensures { result ≡ narrow.byte n }
 {
-    if 255 < n {
-        return 255;
-    }
-    n as u8
+    u8::try_from(n).unwrap_or(u8::MAX)
 }
