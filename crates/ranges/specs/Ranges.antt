@@ -103,12 +103,16 @@ fifo_tests q = leb q.count 3 ∷ place_ok (ltb 0 q.count) q.first ∷ place_ok (
 unfoldable pub fifo_ok : FifoState → Bool
 fifo_ok q = all (fifo_tests q)
 
+-- a bit for each bank and no other
+abbrev pub bank_bits_ok : ℕ → Bool
+bank_bits_ok w = eqb (filter_masked w) w
+
 abbrev pub filters_tests : Filters → List Bool
 filters_tests g =
-    eqb (filter_masked g.mode) g.mode
-    ∷ eqb (filter_masked g.scale) g.scale
-    ∷ eqb (filter_masked g.assignment) g.assignment
-    ∷ eqb (filter_masked g.activation) g.activation
+    bank_bits_ok g.mode
+    ∷ bank_bits_ok g.scale
+    ∷ bank_bits_ok g.assignment
+    ∷ bank_bits_ok g.activation
     ∷ []
 
 unfoldable pub filters_ok : Filters → Bool
