@@ -107,12 +107,14 @@ fn none_behind(w: u64, n: u8) -> bool
 fn frame_ok(x: StoredFrame) -> bool
     ensures { result ≡ ranges.frame_ok x }
 {
-    let data = u64::from(x.rdl) + u64::from(x.rdh) * 0x100000000;
     x.ri % 2 == 0
         && (x.rdt >> 4) % 16 == 0
         && (x.rdt >> 8) % 256 <= 55
-        && none_behind(data, receive::data_bytes(frame_of(x)))
-        && ((x.ri >> 2) % 2 == 1 || (x.ri >> 3) % 262144 == 0)
+        && none_behind(
+            u64::from(x.rdl) + u64::from(x.rdh) * 0x100000000,
+            receive::data_bytes(frame_of(x)),
+        )
+        && (((x.ri >> 2) % 2 == 1) | ((x.ri >> 3) % 262144 == 0))
 }
 
 #[tactic(auto, unfolding(crate::specs::Ranges::is_no_frame))]
