@@ -9,7 +9,7 @@ use lib.Dec.{eqb, ltb}
 use borrow.Author.Tests.{eqb-false, ltb-true, ltb-false, lt-ltb}
 use Rattle.base.specs.Base.{pick, bit}
 use Rattle.model.specs.Queue.{number, same, holds, without, oldest, newest, is_from, is_nobody, is_empty, besides, order_numbers, sender_numbers}
-use Rattle.model.specs.Mailboxes.{at, identifiers, identifier, wire_key, key, before, sooner, later, first_in_wire_order, last_in_wire_order, first, last, last_of, started}
+use Rattle.model.specs.Mailboxes.{at, identifiers, wire_key, key, before, sooner, later, first_in_wire_order, last_in_wire_order, first, last, last_of, started}
 use Rattle.model.specs.Control.{txfp}
 use Rattle.model.specs.Step.{step, settled}
 use Rattle.model.specs.Reachable.{distinct, carried}
@@ -117,7 +117,7 @@ module _ (i : ByMailbox ℕ) where
   -- no two mailboxes have the same key
   strictly : (a b : Mailbox) → key i a ≤ key i b → same a b ≡ false → before i a b ≡ true
   unfolding before key
-  strictly a b l n = lt-ltb (key i a) (key i b) (go (wire_key (identifier i a)) (wire_key (identifier i b)) (number a) (number b) (number_small a) (number_small b) l (eqb-false _ _ (same_numbers a b ∙ n)))
+  strictly a b l n = lt-ltb (key i a) (key i b) (go (wire_key (at i a)) (wire_key (at i b)) (number a) (number b) (number_small a) (number_small b) l (eqb-false _ _ (same_numbers a b ∙ n)))
     where
       go : (x y p q : ℕ) → p < 4 → q < 4 → x * 4 + p ≤ y * 4 + q → (p ≡ q → ⊥) → x * 4 + p < y * 4 + q
       go x y p q lp lq h k = omega arith
@@ -211,10 +211,10 @@ module _ (z : Controller) where
   abbrev mode : Bool
   mode = txfp z.core.control
 
-  ti-key : (m : Mailbox) → wire_key (ti m z) ≡ wire_key (identifier words m)
+  ti-key : (m : Mailbox) → wire_key (ti m z) ≡ wire_key (at words m)
   ti-key m = ap wire_key (ti-shown m z) ∙ without-txrq (at z.core.transmit.mailboxes m).ti (holds order m) ∙ named m
     where
-      named : (m : Mailbox) → wire_key (at z.core.transmit.mailboxes m).ti ≡ wire_key (identifier words m)
+      named : (m : Mailbox) → wire_key (at z.core.transmit.mailboxes m).ti ≡ wire_key (at words m)
       named M0 = refl
       named M1 = refl
       named M2 = refl

@@ -7,7 +7,7 @@ use mathlib.Core.Logic.{◌⊎◌, inl, inr}
 use Prim.Native.Nat.{ℕ, ◌≤◌, ◌+◌}
 use native.Mathlib.Omega.{arith}
 use Rattle.base.specs.Base.{one}
-use Rattle.model.specs.Queue.{flag, holds}
+use Rattle.model.specs.Queue.{at, holds}
 use Rattle.model.specs.Control.{txfp, control_reset}
 use Rattle.model.specs.Registers.{reset, register_at, control_register}
 use Rattle.model.specs.Step.{step, answered, refusal}
@@ -69,27 +69,27 @@ record Shown (m : Mailbox) (b : Requests) (es : List Entry) (k : ℕ) : Type 0 w
   few : count (other_ends m) (meanwhile m b es) ≤ k
   ended : (has_ended m b es ≡ true) ⊎ (count ends_well es ≤ k)
 
-gone_meanwhile : (m : Mailbox) (b : Requests) (es : List Entry) → Not (flag b.outstanding m) → meanwhile m b es ≡ []
+gone_meanwhile : (m : Mailbox) (b : Requests) (es : List Entry) → Not (at b.outstanding m) → meanwhile m b es ≡ []
 unfolding meanwhile
 gone_meanwhile m b [] h = refl
 gone_meanwhile m b (e ∷ es) h = rw h
 
-gone_ended : (m : Mailbox) (b : Requests) (es : List Entry) → Not (flag b.outstanding m) → has_ended m b es ≡ true
+gone_ended : (m : Mailbox) (b : Requests) (es : List Entry) → Not (at b.outstanding m) → has_ended m b es ≡ true
 unfolding has_ended
 gone_ended m b [] h = rw h
 gone_ended m b (e ∷ es) h = rw h
 
-meanwhile-cons : (m : Mailbox) (b : Requests) (e : Entry) (es : List Entry) → Is (flag b.outstanding m)
+meanwhile-cons : (m : Mailbox) (b : Requests) (e : Entry) (es : List Entry) → Is (at b.outstanding m)
     → meanwhile m b (e ∷ es) ≡ record { requests = b; event = event e } ∷ meanwhile m (next b (event e)) es
 unfolding meanwhile
 meanwhile-cons m b e es h = rw h
 
-ended-cons : (m : Mailbox) (b : Requests) (e : Entry) (es : List Entry) → Not (is_drop (event e)) → Is (flag b.outstanding m) → has_ended m b (e ∷ es) ≡ has_ended m (next b (event e)) es
+ended-cons : (m : Mailbox) (b : Requests) (e : Entry) (es : List Entry) → Not (is_drop (event e)) → Is (at b.outstanding m) → has_ended m b (e ∷ es) ≡ has_ended m (next b (event e)) es
 unfolding has_ended
 ended-cons m b e es k h = rw (h, k)
 
 -- one step more
-extend : (m : Mailbox) (b : Requests) (e : Entry) (es : List Entry) (k k' : ℕ) → Not (is_drop (event e)) → Is (flag b.outstanding m) → Shown m (next b (event e)) es k'
+extend : (m : Mailbox) (b : Requests) (e : Entry) (es : List Entry) (k k' : ℕ) → Not (is_drop (event e)) → Is (at b.outstanding m) → Shown m (next b (event e)) es k'
     → one (other_end m (event e) b) + k' ≤ k → one (is_good (event e)) ≤ one (other_end m (event e) b) → Shown m b (e ∷ es) k
 unfolding count
 extend m b e es k k' nd h o l l' = record {
@@ -101,7 +101,7 @@ extend m b e es k k' nd h o l l' = record {
     go (inl x) = inl (ended-cons m b e es nd h ∙ x)
     go (inr x) = inr (omega arith)
 
-finish : (m : Mailbox) (b : Requests) (e : Entry) (es : List Entry) (k : ℕ) → Not (is_drop (event e)) → Is (flag b.outstanding m) → Not (flag (next b (event e)).outstanding m)
+finish : (m : Mailbox) (b : Requests) (e : Entry) (es : List Entry) (k : ℕ) → Not (is_drop (event e)) → Is (at b.outstanding m) → Not (at (next b (event e)).outstanding m)
     → other_end m (event e) b ≡ false → Shown m b (e ∷ es) k
 unfolding count
 finish m b e es k nd h g x = record {
@@ -120,7 +120,7 @@ every_tail p x l h = and_r (p x) (every p l) h
 abbrev Promise : Mailbox → List Entry → View → Type 0
 Promise m es d = every under_request_order (meanwhile m (requests_of d) es) ≡ true → Shown m (requests_of d) es (rank d.queue m)
 
-outstanding-held : (d : View) (m : Mailbox) (b : Bool) → holds d.queue.order m ≡ b → flag (requests_of d).outstanding m ≡ b
+outstanding-held : (d : View) (m : Mailbox) (b : Bool) → holds d.queue.order m ≡ b → at (requests_of d).outstanding m ≡ b
 outstanding-held d m b h = flag_out d.queue.order m ∙ h
 
 ordered_keeps : (x : Event) (t : Bool) → Is (in_order x t) → Not (is_drop x)
@@ -139,7 +139,7 @@ advance : (m : Mailbox) (d : View) (e : Entry) (es : List Entry) → Not (is_dro
     → Shown m (requests_of d) (e ∷ es) (rank d.queue m)
 advance m d e es nd eq w (over gone o) ih h =
     finish m (requests_of d) e es _ nd (outstanding-held d m true w.held)
-    (subst (λ (b : Requests). flag b.outstanding m ≡ false) (sym eq) (outstanding-held (view_next d (event e)) m false (Is-not _ gone))) o
+    (subst (λ (b : Requests). at b.outstanding m ≡ false) (sym eq) (outstanding-held (view_next d (event e)) m false (Is-not _ gone))) o
 advance m d e es nd eq w (on w' l l') ih h =
     extend m (requests_of d) e es _ (rank (view_next d (event e)).queue m) nd (outstanding-held d m true w.held)
     (subst (λ (b : Requests). Shown m b es (rank (view_next d (event e)).queue m)) (sym eq)
@@ -189,13 +189,13 @@ accepted : (rest : List steps.Step) (z : Controller) (s : steps.Step) (m : Mailb
 accepted rest z s m g e h =
     let d : View = view z in
     let z' : Controller = (step z s).controller in
-    let at : view z' ≡ view_next d (accepts m) = (follows z s).view ∙ ap (view_next d) e in
+    let seen : view z' ≡ view_next d (accepts m) = (follows z s).view ∙ ap (view_next d) e in
     let new : Granted d (accepts m) = subst (Granted d) e (follows z s).granted in
-    let w : Waits z'.core.transmit.queue m = subst (λ (x : View). Waits x.queue m) (sym at) (accepted-waits d m g new) in
+    let w : Waits z'.core.transmit.queue m = subst (λ (x : View). Waits x.queue m) (sym seen) (accepted-waits d m g new) in
     served m _ _ _ (few-before z'.core.transmit.queue m (step_sound z s g) w) (waits rest z' m (step_sound z s g) w h)
 
 -- outstanding at the start
-pub good-held : (z : Controller) (l : List steps.Step) (m : Mailbox) → Good z → Is (flag (requests_of (view z)).outstanding m) → Claim (requests_of (view z)) m (entries z l)
+pub good-held : (z : Controller) (l : List steps.Step) (m : Mailbox) → Good z → Is (at (requests_of (view z)).outstanding m) → Claim (requests_of (view z)) m (entries z l)
 good-held z l m g o h =
     let w : Waits z.core.transmit.queue m = record { held = sym (flag_out z.core.transmit.queue.order m) ∙ o } in
     served m _ _ _ (few-before z.core.transmit.queue m g w) (waits l z m g w h)
@@ -222,7 +222,7 @@ good-fair z l g = record {
     b : Requests
     b = requests_of (view z)
 
-    empty : (m : Mailbox) → tme m (after z l) ≡ not (flag (requests_from z b l).outstanding m)
+    empty : (m : Mailbox) → tme m (after z l) ≡ not (at (requests_from z b l).outstanding m)
     empty m = rw (run-requests l z g, flag_out (after z l).core.transmit.queue.order m) (flags-shown (after z l) m).tme
 
     claim : (before : List steps.Step) (s : steps.Step) (rest : List steps.Step) (m : Mailbox) → event (entry s (step (after z before) s)) ≡ accepts m

@@ -6,6 +6,7 @@ pub mod ReadFields
 pub mod Views
 pub mod Follows
 pub mod Fair
+pub mod Compared
 pub mod Computed
 pub mod Starve
 pub mod Mapped

@@ -7,7 +7,7 @@ use native.Mathlib.Omega.{arith}
 use lib.Dec.{eqb}
 use borrow.Author.Tests.{eqb-true}
 use Rattle.base.specs.Base.{pick, bit, one}
-use Rattle.model.specs.Queue.{same, flag, holds, joined, without, is_nobody, requested, aborted, aborted_all, off_wire}
+use Rattle.model.specs.Queue.{same, holds, joined, without, is_nobody, requested, aborted, aborted_all, off_wire}
 use Rattle.model.specs.Mailboxes.{at, put, with_words, with_flags, empty_mailbox, tdt_masked, ti_written, tdt_written, tdl_written, tdh_written, with_mailbox, requested_by, cleared, completed, aborts_pending, abrq, tsr_written, dropped, started, over, outcome_flags, ended}
 use Rattle.model.specs.Reachable.{QueueRange, MailboxRange, TransmitRange}
 use Rattle.model.specs.declared.Mailbox.{Mailbox}
@@ -250,7 +250,7 @@ module _ (t : Transmit) (r : TransmitRange t) where
   pub ended-range : (m : Mailbox) (n : ℕ) (nart : Bool) → t.queue.transmitting ≡ Some m → TransmitRange (ended t m n nart)
   unfolding ended over
   ended-range m n nart e = record {
-    queue = off_wire-range t.queue m r.queue e _ (or_r (eqb n 0 || nart) (flag t.queue.aborts m));
+    queue = off_wire-range t.queue m r.queue e _ (or_r (eqb n 0 || nart) (at t.queue.aborts m));
     mailboxes = put-range m _ (outcome_flags-range (at t.mailboxes m) (r.mailboxes m) n _ (λ h. either (eqb n 0 || nart) _ (either (eqb n 0) nart h)));
-    pending = ended-pending m n (eqb n 0 || nart || flag t.queue.aborts m);
+    pending = ended-pending m n (eqb n 0 || nart || at t.queue.aborts m);
   }

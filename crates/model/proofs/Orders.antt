@@ -6,7 +6,7 @@ use Prim.Native.Nat.{ℕ, suc, ◌+◌, ◌≤◌}
 use lib.Dec.{leb, eqb}
 use borrow.Author.Tests.{leb-true, eqb-true}
 use Rattle.base.specs.Base.{pick, one}
-use Rattle.model.specs.Queue.{same, flag, flagged, holds, joined, without, oldest, is_from}
+use Rattle.model.specs.Queue.{same, at, put, holds, joined, without, oldest, is_from}
 use Rattle.model.specs.Reachable.{distinct}
 use Rattle.model.specs.declared.Mailbox.{Mailbox}
 use Rattle.model.specs.declared.Mailbox.TheVariants.{M0, M1, M2}
@@ -87,14 +87,14 @@ ahead_two o m = leb-true _ _ (each (λ o m x y. leb (ahead m o) 2) refl o m m m)
 pub rank-two : (o : RequestOrder) (m x : Mailbox) → Is (distinct o) → Is (holds o m) → Is (holds o x) → ahead m o + one (not (leb (ahead x o) (ahead m o))) ≤ 2
 rank-two o m x d h k = leb-true _ _ (imp_Is (imp_Is (imp_Is (each (λ o m x y. imp (distinct o) (imp (holds o m) (imp (holds o x) (leb (ahead m o + one (not (leb (ahead x o) (ahead m o)))) 2)))) refl o m x x) d) h) k)
 
-pub flag_out : (o : RequestOrder) (m : Mailbox) → flag (out_of o) m ≡ holds o m
+pub flag_out : (o : RequestOrder) (m : Mailbox) → at (out_of o) m ≡ holds o m
 flag_out o M0 = refl
 flag_out o M1 = refl
 flag_out o M2 = refl
 
 module _ (o : RequestOrder) (ok : Is (distinct o)) where
-  pub out_without : (x : Mailbox) → out_of (without o x) ≡ flagged (out_of o) x false
-  out_without x = flags-eq _ _ (imp_Is (each (λ o x a b. imp (distinct o) (same_flags (out_of (without o x)) (flagged (out_of o) x false))) refl o x x x) ok)
+  pub out_without : (x : Mailbox) → out_of (without o x) ≡ put (out_of o) x false
+  out_without x = flags-eq _ _ (imp_Is (each (λ o x a b. imp (distinct o) (same_flags (out_of (without o x)) (put (out_of o) x false))) refl o x x x) ok)
 
   pub distinct_without : (x : Mailbox) → Is (distinct (without o x))
   distinct_without x = imp_Is (each (λ o x a b. imp (distinct o) (distinct (without o x))) refl o x x x) ok
@@ -102,8 +102,8 @@ module _ (o : RequestOrder) (ok : Is (distinct o)) where
   pub gone_without : (x : Mailbox) → Is (not (holds (without o x) x))
   gone_without x = imp_Is (each (λ o x a b. imp (distinct o) (not (holds (without o x) x))) refl o x x x) ok
 
-  pub out_joined : (x : Mailbox) → Is (not (holds o x)) → out_of (joined o x) ≡ flagged (out_of o) x true
-  out_joined x new = flags-eq _ _ (imp_Is (imp_Is (each (λ o x a b. imp (distinct o) (imp (not (holds o x)) (same_flags (out_of (joined o x)) (flagged (out_of o) x true)))) refl o x x x) ok) new)
+  pub out_joined : (x : Mailbox) → Is (not (holds o x)) → out_of (joined o x) ≡ put (out_of o) x true
+  out_joined x new = flags-eq _ _ (imp_Is (imp_Is (each (λ o x a b. imp (distinct o) (imp (not (holds o x)) (same_flags (out_of (joined o x)) (put (out_of o) x true)))) refl o x x x) ok) new)
 
   pub distinct-joined : (x : Mailbox) → Is (not (holds o x)) → Is (distinct (joined o x))
   distinct-joined x new = imp_Is (imp_Is (each (λ o x a b. imp (distinct o) (imp (not (holds o x)) (distinct (joined o x)))) refl o x x x) ok) new

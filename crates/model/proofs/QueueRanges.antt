@@ -3,7 +3,7 @@ use Rattle.std.proofs.Common.{Option, Some, None, Bool}
 use mathlib.Core.Bool.{Bool, true, false, not, ◌&&◌, false≢true}
 use mathlib.Core.Path.{◌≡◌, refl, sym, ap, ◌∙◌}
 use Rattle.base.specs.Base.{pick}
-use Rattle.model.specs.Queue.{same, flag, flagged, holds, is_from, is_nobody, no_requests, requested, emptied, remembered, aborted, aborted_all, sending, off_wire}
+use Rattle.model.specs.Queue.{same, at, put, holds, is_from, is_nobody, no_requests, requested, emptied, remembered, aborted, aborted_all, sending, off_wire}
 use Rattle.model.specs.Mailboxes.{aborts_pending}
 use Rattle.model.specs.Reachable.{distinct, QueueRange}
 use Rattle.model.specs.declared.Mailbox.{Mailbox}
@@ -17,7 +17,7 @@ use Rattle.model.specs.declared.ByMailbox.{ByMailbox}
 -- ---- a bit of three set or cleared
 
 -- what is set was set before
-cleared-bit : (f : ByMailbox Bool) (m x : Mailbox) → flag (flagged f m false) x ≡ true → flag f x ≡ true
+cleared-bit : (f : ByMailbox Bool) (m x : Mailbox) → at (put f m false) x ≡ true → at f x ≡ true
 cleared-bit f M0 M0 h = absurd (false≢true h)
 cleared-bit f M0 M1 h = h
 cleared-bit f M0 M2 h = h
@@ -29,7 +29,7 @@ cleared-bit f M2 M1 h = h
 cleared-bit f M2 M2 h = absurd (false≢true h)
 
 -- what is set was set before, or is m's
-set-bit : (P : Mailbox → Type 0) (f : ByMailbox Bool) (m x : Mailbox) → P m → (flag f x ≡ true → P x) → flag (flagged f m true) x ≡ true → P x
+set-bit : (P : Mailbox → Type 0) (f : ByMailbox Bool) (m x : Mailbox) → P m → (at f x ≡ true → P x) → at (put f m true) x ≡ true → P x
 set-bit P f M0 M0 p g h = p
 set-bit P f M0 M1 p g h = g h
 set-bit P f M0 M2 p g h = g h
@@ -41,7 +41,7 @@ set-bit P f M2 M1 p g h = g h
 set-bit P f M2 M2 p g h = p
 
 -- where only m's can be set and m's is not, none is
-none-set : (f : ByMailbox Bool) (m x : Mailbox) → (flag f x ≡ true → same m x ≡ true) → flag f m ≡ false → flag f x ≡ true → false ≡ true
+none-set : (f : ByMailbox Bool) (m x : Mailbox) → (at f x ≡ true → same m x ≡ true) → at f m ≡ false → at f x ≡ true → false ≡ true
 none-set f M0 M0 g n h = sym n ∙ h
 none-set f M0 M1 g n h = g h
 none-set f M0 M2 g n h = g h
@@ -52,7 +52,7 @@ none-set f M2 M0 g n h = g h
 none-set f M2 M1 g n h = g h
 none-set f M2 M2 g n h = sym n ∙ h
 
-cleared-off : (f : ByMailbox Bool) (m : Mailbox) → flag (flagged f m false) m ≡ false
+cleared-off : (f : ByMailbox Bool) (m : Mailbox) → at (put f m false) m ≡ false
 cleared-off f M0 = refl
 cleared-off f M1 = refl
 cleared-off f M2 = refl
@@ -67,7 +67,7 @@ free_none (Some x) m h = absurd (false≢true h)
 pub no_requests-range : QueueRange no_requests
 no_requests-range = record { once = refl; carries = refl; aborts = none }
   where
-    none : (m : Mailbox) → flag no_requests.aborts m ≡ true → is_from None m ≡ true
+    none : (m : Mailbox) → at no_requests.aborts m ≡ true → is_from None m ≡ true
     none M0 h = h
     none M1 h = h
     none M2 h = h
@@ -109,15 +109,15 @@ module _ (q : Queue) (m : Mailbox) (r : QueueRange q) where
   }
 
   -- the transmission of m ends; m's own remembered abort ends its request
-  pub off_wire-range : q.transmitting ≡ Some m → (over : Bool) → (over ≡ false → flag q.aborts m ≡ false) → QueueRange (off_wire q m over)
+  pub off_wire-range : q.transmitting ≡ Some m → (over : Bool) → (over ≡ false → at q.aborts m ≡ false) → QueueRange (off_wire q m over)
   unfolding off_wire
   off_wire-range e over k =
-      let own : (x : Mailbox) → flag q.aborts x ≡ true → same m x ≡ true = λ x on. rw e at (r.aborts x on) in
+      let own : (x : Mailbox) → at q.aborts x ≡ true → same m x ≡ true = λ x on. rw e at (r.aborts x on) in
       pick_cases QueueRange over _ _
       (λ _. record {
         once = distinct_without q.order r.once m;
         carries = refl;
-        aborts = λ x. none-set (flagged q.aborts m false) m x (λ on. own x (cleared-bit q.aborts m x on)) (cleared-off q.aborts m);
+        aborts = λ x. none-set (put q.aborts m false) m x (λ on. own x (cleared-bit q.aborts m x on)) (cleared-off q.aborts m);
       })
       (λ no. record { once = r.once; carries = refl; aborts = λ x. none-set q.aborts m x (own x) (k no) })
 

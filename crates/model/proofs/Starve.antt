@@ -5,7 +5,7 @@ use mathlib.Core.List.{List, [], ◌∷◌, ◌++◌}
 use Prim.Native.Nat.{ℕ, zero, suc}
 use native.Mathlib.Omega.{arith}
 use Rattle.base.specs.Base.{pick}
-use Rattle.model.specs.Queue.{flag}
+use Rattle.model.specs.Queue.{at}
 use Rattle.model.specs.Registers.{reset}
 use Rattle.model.specs.Step.{step}
 use Rattle.model.specs.Requests.{accepts, Entry, Requests, none_yet, next, requests_after, after, entries, event, entry}
@@ -118,7 +118,7 @@ unfolding entry_rounds observed everything
 has-not-ended zero = refl
 has-not-ended (suc n) = has-not-ended n
 
-still_outstanding_lem : (n : ℕ) → flag (requests_after asked (entry_rounds n)).outstanding M0 ≡ true
+still_outstanding_lem : (n : ℕ) → at (requests_after asked (entry_rounds n)).outstanding M0 ≡ true
 unfolding entry_rounds observed everything
 still_outstanding_lem zero = refl
 still_outstanding_lem (suc n) = still_outstanding_lem n
@@ -163,12 +163,12 @@ two-others = record {
 pub dropped_never_ends : (m : Mailbox) (b : Requests) (l : List Entry) (e : Entry) (rest : List Entry)
     → has_ended m b l ≡ false → is_drop (event e) ≡ true → has_ended m b (l ++ e ∷ rest) ≡ false
 unfolding has_ended
-dropped_never_ends m b [] e rest h d = first (flag b.outstanding m) h
+dropped_never_ends m b [] e rest h d = first (at b.outstanding m) h
   where
     first : (f : Bool) → not f ≡ false → pick f (not (is_drop (event e)) && has_ended m (next b (event e)) rest) true ≡ false
     first true k = rw d
     first false k = absurd (true≢false k)
-dropped_never_ends m b (x ∷ l) e rest h d = later (flag b.outstanding m) (is_drop (event x)) h (λ k. dropped_never_ends m (next b (event x)) l e rest k d)
+dropped_never_ends m b (x ∷ l) e rest h d = later (at b.outstanding m) (is_drop (event x)) h (λ k. dropped_never_ends m (next b (event x)) l e rest k d)
   where
     later : (f g : Bool) → pick f (not g && has_ended m (next b (event x)) l) true ≡ false
         → (has_ended m (next b (event x)) l ≡ false → has_ended m (next b (event x)) (l ++ e ∷ rest) ≡ false)

@@ -9,7 +9,7 @@ use lib.Dec.{eqb, ltb}
 use lib.ListN.{length}
 use borrow.Author.Tests.{eqb-true, ltb-false}
 use Rattle.base.specs.Base.{pick, bit}
-use Rattle.model.specs.Queue.{number, same, flag, flagged, holds, joined, without, is_from, no_flags, requested, emptied, remembered, aborted, aborted_all, off_wire, order_numbers, sender_numbers}
+use Rattle.model.specs.Queue.{number, same, put, holds, joined, without, is_from, no_flags, requested, emptied, remembered, aborted, aborted_all, off_wire, order_numbers, sender_numbers}
 use Rattle.model.specs.Mailboxes.{at, ti_written, tdt_written, tdl_written, tdh_written, requested_by, cleared, completed, tsr_written, abrq, dropped, started, over, outcome_flags, ended}
 use Rattle.model.specs.Control.{nart}
 use Rattle.model.specs.Registers.{register_at, core_reset, written, write_refusal}
@@ -126,7 +126,7 @@ aborted-numbers q w d =
     by_number M1 = refl
     by_number M2 = refl
 
-flagged-at : (g : ByMailbox Bool) (k m : Mailbox) (b : Bool) → flag (flagged g k b) m ≡ pick (same k m) b (flag g m)
+flagged-at : (g : ByMailbox Bool) (k m : Mailbox) (b : Bool) → at (put g k b) m ≡ pick (same k m) b (at g m)
 flagged-at g M0 M0 b = refl
 flagged-at g M0 M1 b = refl
 flagged-at g M0 M2 b = refl
@@ -146,26 +146,26 @@ module _ (q : Queue) (r : QueueRange q) (k m : Mailbox) where
       go None c e = absurd (false≢true e)
       go (Some a) c e = ap (λ (x : Mailbox). holds q.order x) (sym (same-eq a k e)) ∙ c
 
-  not-remembered : is_from q.transmitting k ≡ false → flag q.aborts k ≡ false
-  not-remembered n = go (flag q.aborts k) refl
+  not-remembered : is_from q.transmitting k ≡ false → at q.aborts k ≡ false
+  not-remembered n = go (at q.aborts k) refl
     where
-      go : (b : Bool) → flag q.aborts k ≡ b → b ≡ false
+      go : (b : Bool) → at q.aborts k ≡ b → b ≡ false
       go true e = opposed (r.aborts k e) n
       go false e = refl
 
-  aborted-flag : (b : Bool) → flag (aborted b q k).aborts m ≡ pick (same k m) (flag q.aborts m || (b && is_from q.transmitting k)) (flag q.aborts m)
+  aborted-flag : (b : Bool) → at (aborted b q k).aborts m ≡ pick (same k m) (at q.aborts m || (b && is_from q.transmitting k)) (at q.aborts m)
   unfolding aborted
   aborted-flag b = go (same k m) (is_from q.transmitting k) (holds q.order k) b refl refl refl
     where
       go : (s f h b : Bool) → same k m ≡ s → is_from q.transmitting k ≡ f → holds q.order k ≡ h
-          → flag (pick (b && h) (pick f (remembered q k) (emptied q k)) q).aborts m ≡ pick s (flag q.aborts m || (b && f)) (flag q.aborts m)
-      go true f h false p e o = sym (or-false (flag q.aborts m))
-      go true true true true p e o = flagged-at q.aborts k m true ∙ rw p (sym (or-true (flag q.aborts m)))
+          → at (pick (b && h) (pick f (remembered q k) (emptied q k)) q).aborts m ≡ pick s (at q.aborts m || (b && f)) (at q.aborts m)
+      go true f h false p e o = sym (or-false (at q.aborts m))
+      go true true true true p e o = flagged-at q.aborts k m true ∙ rw p (sym (or-true (at q.aborts m)))
       go true false true true p e o =
-          let n : flag q.aborts m ≡ false = ap (λ (x : Mailbox). flag q.aborts x) (sym (same-eq k m p)) ∙ not-remembered e in
+          let n : at q.aborts m ≡ false = ap (λ (x : Mailbox). at q.aborts x) (sym (same-eq k m p)) ∙ not-remembered e in
           flagged-at q.aborts k m false ∙ rw (p, n)
       go true true false true p e o = opposed (wire-held e) o
-      go true false false true p e o = sym (or-false (flag q.aborts m))
+      go true false false true p e o = sym (or-false (at q.aborts m))
       go false f h false p e o = refl
       go false true true true p e o = flagged-at q.aborts k m true ∙ rw p
       go false false true true p e o = flagged-at q.aborts k m false ∙ rw p
@@ -184,7 +184,7 @@ module _ (q : Queue) (r : QueueRange q) (w : ℕ) where
   r1 : QueueRange q1
   r1 = aborted-range q0 M1 r0 (bit 15 w)
 
-  aborted_all-flag : (m : Mailbox) → flag (aborted_all q (abrq w)).aborts m ≡ flag q.aborts m || (asks_abort w (number m) && is_from q.transmitting m)
+  aborted_all-flag : (m : Mailbox) → at (aborted_all q (abrq w)).aborts m ≡ at q.aborts m || (asks_abort w (number m) && is_from q.transmitting m)
   unfolding aborted_all
   aborted_all-flag M0 = aborted-flag q1 r1 M2 M0 (bit 23 w) ∙ aborted-flag q0 r0 M1 M0 (bit 15 w) ∙ aborted-flag q r M0 M0 (bit 7 w)
   aborted_all-flag M1 =
@@ -239,7 +239,7 @@ tsr_write z w m i =
       txok = v.txok ∙ ap (λ (x : Transmit). (at x.mailboxes m).txok) e ∙ u.txok ∙ sym (ap₂ (λ (x b : Bool). x && not (bit (8 * number m) w) && not (bit (8 * number m + 1) w) && not b) s.txok a);
       alst = v.alst ∙ ap (λ (x : Transmit). (at x.mailboxes m).alst) e ∙ u.alst ∙ sym (ap (λ (x : Bool). x && not (bit (8 * number m) w) && not (bit (8 * number m + 2) w)) s.alst);
       terr = v.terr ∙ ap (λ (x : Transmit). (at x.mailboxes m).terr) e ∙ u.terr ∙ sym (ap (λ (x : Bool). x && not (bit (8 * number m) w) && not (bit (8 * number m + 3) w)) s.terr);
-      abrq = v.abrq ∙ ap (λ (x : Transmit). flag x.queue.aborts m) e ∙ aborted_all-flag t.queue i.core.transmit.queue w m
+      abrq = v.abrq ∙ ap (λ (x : Transmit). at x.queue.aborts m) e ∙ aborted_all-flag t.queue i.core.transmit.queue w m
           ∙ sym (ap₂ (λ (x b : Bool). x || (asks_abort w (number m) && b)) s.abrq (has-wire t.queue.transmitting m));
       empties = ap (λ (x : Transmit). order_numbers x.queue.order) e ∙ aborted-numbers t.queue w i.core.transmit.queue.once;
       wire = ap (λ (x : Transmit). sender_numbers x.queue.transmitting) e ∙ ap sender_numbers (aborted_all-wire t.queue (abrq w));
@@ -294,7 +294,7 @@ dropped-after : (z : Controller) (w : ℕ) → bit 15 w ≡ true → (after_writ
 unfolding settled written write_refusal core_reset
 dropped-after z w h = ap (λ (c : Core). c.transmit) (write_core Mcr z w tt (accepts Mcr z w tt refl)) ∙ rw h
 
-no_flag : (m : Mailbox) → flag no_flags m ≡ false
+no_flag : (m : Mailbox) → at no_flags m ≡ false
 no_flag M0 = refl
 no_flag M1 = refl
 no_flag M2 = refl
@@ -307,7 +307,7 @@ requests-dropped z w m h =
       requests = ap (λ (x : Transmit). order_numbers x.queue.order) e;
       wire = ap (λ (x : Transmit). sender_numbers x.queue.transmitting) e;
       rqcp = (flags-shown y m).rqcp ∙ ap (λ (x : Transmit). (at x.mailboxes m).rqcp) e ∙ sym (flags-shown z m).rqcp;
-      abrq = (flags-shown y m).abrq ∙ ap (λ (x : Transmit). flag x.queue.aborts m) e ∙ no_flag m;
+      abrq = (flags-shown y m).abrq ∙ ap (λ (x : Transmit). at x.queue.aborts m) e ∙ no_flag m;
     }
 
 -- ---- own end
@@ -334,7 +334,7 @@ unfolding settled ended_by
 ended-after z m r e h = ap (λ (c : Core). c.transmit) (end_core z r h) ∙ ap (λ (v : Option Mailbox). (ended_by v z.core z.banks r).transmit) e
 
 -- the flags and the request of the mailbox that ends, b saying whether the request ends
-off-flag : (q : Queue) (m : Mailbox) (b : Bool) → (b ≡ false → flag q.aborts m ≡ false) → flag (off_wire q m b).aborts m ≡ false
+off-flag : (q : Queue) (m : Mailbox) (b : Bool) → (b ≡ false → at q.aborts m ≡ false) → at (off_wire q m b).aborts m ≡ false
 unfolding off_wire
 off-flag q m true h = flagged-at q.aborts m m false ∙ rw (same_self m)
 off-flag q m false h = h refl
@@ -370,7 +370,7 @@ own_end z m r i f h =
       txok = v.txok ∙ ap (λ (x : MailboxState). x.txok) p;
       alst = v.alst ∙ ap (λ (x : MailboxState). x.alst) p;
       terr = v.terr ∙ ap (λ (x : MailboxState). x.terr) p ∙ coded_end r (result_range_lem z r h);
-      abrq = v.abrq ∙ ap (λ (x : Transmit). flag x.queue.aborts m) e ∙ off-flag t.queue m b (λ o. or_r (eqb r 0 || n) (flag t.queue.aborts m) o);
+      abrq = v.abrq ∙ ap (λ (x : Transmit). at x.queue.aborts m) e ∙ off-flag t.queue m b (λ o. or_r (eqb r 0 || n) (at t.queue.aborts m) o);
       requests = ap (λ (x : Transmit). order_numbers x.queue.order) e ∙ off-numbers t.queue m b i.core.transmit.queue.once
           ∙ sym (ap (λ (c : Bool). pick c (except (λ n. eqb n (number m)) (order_numbers t.queue.order)) (order_numbers t.queue.order)) k);
       wire = ap (λ (x : Transmit). sender_numbers x.queue.transmitting) e ∙ ap sender_numbers (off_wire_lem t.queue m b);
@@ -465,5 +465,5 @@ requests_stay z s h =
     record {
       requests = ap (λ (q : Queue). order_numbers q.order) e;
       wire = ap (λ (q : Queue). sender_numbers q.transmitting) e;
-      abrq = λ m. (flags-shown y m).abrq ∙ ap (λ (q : Queue). flag q.aborts m) e ∙ sym (flags-shown z m).abrq;
+      abrq = λ m. (flags-shown y m).abrq ∙ ap (λ (q : Queue). at q.aborts m) e ∙ sym (flags-shown z m).abrq;
     }

@@ -9,7 +9,7 @@ use native.Mathlib.Omega.{arith}
 use lib.ListN.{length}
 use borrow.Author.Tests.{eqb-true, eqb-false}
 use Rattle.base.specs.Base.{bit, bits, one}
-use Rattle.model.specs.Queue.{number, sender_number, flag, holds}
+use Rattle.model.specs.Queue.{number, sender_number, holds}
 use Rattle.model.specs.Mailboxes.{at, tme, low, code, tsr_byte, tsr, last_of}
 use Rattle.model.specs.Control.{txfp}
 use Rattle.model.specs.Shown as read
@@ -110,7 +110,7 @@ pub record Status (p : Bool) (t : Transmit) (m : Mailbox) : Type 0 where
   pub txok : bit (8 * number m + 1) (tsr p t) ≡ (at t.mailboxes m).txok
   pub alst : bit (8 * number m + 2) (tsr p t) ≡ (at t.mailboxes m).alst
   pub terr : bit (8 * number m + 3) (tsr p t) ≡ (at t.mailboxes m).terr
-  pub abrq : bit (8 * number m + 7) (tsr p t) ≡ flag t.queue.aborts m
+  pub abrq : bit (8 * number m + 7) (tsr p t) ≡ at t.queue.aborts m
   pub tme : bit (26 + number m) (tsr p t) ≡ tme t m
   pub low : bit (29 + number m) (tsr p t) ≡ low p t m
   pub bit4 : bit (8 * number m + 4) (tsr p t) ≡ false
@@ -148,7 +148,7 @@ pub record FlagsShown (z : Controller) (m : Mailbox) : Type 0 where
   pub txok : read.txok m z ≡ (at z.core.transmit.mailboxes m).txok
   pub alst : read.alst m z ≡ (at z.core.transmit.mailboxes m).alst
   pub terr : read.terr m z ≡ (at z.core.transmit.mailboxes m).terr
-  pub abrq : read.abrq m z ≡ flag z.core.transmit.queue.aborts m
+  pub abrq : read.abrq m z ≡ at z.core.transmit.queue.aborts m
   pub tme : read.tme m z ≡ not (holds z.core.transmit.queue.order m)
   pub low : read.low m z ≡ low (txfp z.core.control) z.core.transmit m
   pub reserved : (read.status_bit 4 m z ≡ false) × (read.status_bit 5 m z ≡ false) × (read.status_bit 6 m z ≡ false)

@@ -7,7 +7,7 @@ use Prim.Native.Nat.{ℕ, ◌≤◌, ◌+◌}
 use native.Mathlib.Omega.{arith}
 use lib.Dec.{leb}
 use Rattle.base.specs.Base.{pick, one}
-use Rattle.model.specs.Queue.{same, flag, flagged, holds, joined, without, oldest, is_from, is_nobody, no_requests, requested, emptied, remembered, aborted, aborted_all, sending, freed, off_wire}
+use Rattle.model.specs.Queue.{same, at, put, holds, joined, without, oldest, is_from, is_nobody, no_requests, requested, emptied, remembered, aborted, aborted_all, sending, freed, off_wire}
 use Rattle.model.specs.Requests.{Event, nothing, drops, modes, accepts, aborts, starts, ends, Requests, next, closed, marked, abort_seen, end_seen}
 use Rattle.model.specs.Reachable.{distinct, carried}
 use Rattle.model.specs.Fairness.{in_order, other_end, other_on, is_good}
@@ -29,7 +29,7 @@ with_queue d q = record { queue = q; nart = d.nart; txfp = d.txfp }
 
 abbrev pub off_view : Option Mailbox → View → Bool → View
 off_view None d good = d
-off_view (Some m) d good = with_queue d (off_wire d.queue m (good || d.nart || flag d.queue.aborts m))
+off_view (Some m) d good = with_queue d (off_wire d.queue m (good || d.nart || at d.queue.aborts m))
 
 -- what an event does
 abbrev pub view_next : View → Event → View
@@ -88,7 +88,7 @@ off_sound : (w : Option Mailbox) (d : View) (good : Bool) → Sound d.queue → 
 unfolding off_wire
 off_sound None d good g = g
 off_sound (Some m) d good g =
-    pick_cases Sound (good || d.nart || flag d.queue.aborts m) _ _
+    pick_cases Sound (good || d.nart || at d.queue.aborts m) _ _
     (λ _. record { once = distinct_without d.queue.order g.once m; wired = refl })
     (λ _. record { once = g.once; wired = refl })
 
@@ -104,7 +104,7 @@ sound_next d (ends good) g k = off_sound d.queue.transmitting d good g
 
 -- the observer follows
 closed-emptied : (d : View) (m : Mailbox) → Sound d.queue → closed (requests_of d) m ≡ requests_of (with_queue d (emptied d.queue m))
-closed-emptied d m g = λ i. record { outstanding = sym (out_without d.queue.order g.once m) i; marks = flagged d.queue.aborts m false; transmitting = d.queue.transmitting; nart = d.nart; txfp = d.txfp }
+closed-emptied d m g = λ i. record { outstanding = sym (out_without d.queue.order g.once m) i; marks = put d.queue.aborts m false; transmitting = d.queue.transmitting; nart = d.nart; txfp = d.txfp }
 
 abort_choice : (b : Bool) (d : View) (m : Mailbox) → Sound d.queue
     → pick b (pick (is_from d.queue.transmitting m) (marked (requests_of d) m) (closed (requests_of d) m)) (requests_of d)
@@ -120,7 +120,7 @@ end_follows : (w : Option Mailbox) (d : View) (good : Bool) → Sound d.queue �
 unfolding off_wire
 end_follows None d good g = refl
 end_follows (Some m) d good g =
-    sym (pick-both (λ q. requests_of (with_queue d q)) (good || d.nart || flag d.queue.aborts m) _ _ _ _
+    sym (pick-both (λ q. requests_of (with_queue d q)) (good || d.nart || at d.queue.aborts m) _ _ _ _
     (sym (closed-emptied (with_queue d (freed d.queue)) m (record { once = g.once; wired = refl }))) refl)
 
 pub requests_follow : (d : View) (n : Event) → Sound d.queue → Granted d n → next (requests_of d) n ≡ requests_of (view_next d n)
@@ -228,7 +228,7 @@ end_choice false false q m x k g w p = rw and-false (on (record { held = w.held 
 end_turn : (v : Option Mailbox) (d : View) (good : Bool) (m : Mailbox) → d.queue.transmitting ≡ v → Is (not (is_nobody v)) → Sound d.queue → Waits d.queue m
     → Turn d.queue (off_view v d good).queue m (other_on m v (requests_of d) good) good
 end_turn None d good m p k g w = absurd (false≢true k)
-end_turn (Some x) d good m p k g w = end_choice (good || d.nart || flag d.queue.aborts x) good d.queue m x (λ e. rw e) g w p
+end_turn (Some x) d good m p k g w = end_choice (good || d.nart || at d.queue.aborts x) good d.queue m x (λ e. rw e) g w p
 
 pub turn : (d : View) (n : Event) (m : Mailbox) → Sound d.queue → Granted d n → Waits d.queue m → Is (in_order n d.txfp)
     → Turn d.queue (view_next d n).queue m (other_end m n (requests_of d)) (is_good n)

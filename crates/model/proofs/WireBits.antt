@@ -12,7 +12,7 @@ use lib.Pow.{pow_pos, mod-pow-add, shr-shr, high, low}
 use borrow.Author.Tests.{eqb-true, eqb-false, ltb-true, ltb-false, leb-true, leb-false, eq-eqb, ne_eqb, lt-ltb, le-ltb}
 use Rattle.base.specs.Base.{pick, bit, bits, one}
 use Rattle.model.specs.Queue.{number}
-use Rattle.model.specs.Mailboxes.{wire_key, identifier, key, before, sent_identifier}
+use Rattle.model.specs.Mailboxes.{wire_key, at, key, before, sent_identifier}
 use Rattle.model.specs.Arbitration.{down_to, arbitration, wins, goes_before, WireOrder, SentIdentifier}
 use Rattle.model.specs.declared.Mailbox.{Mailbox}
 use Rattle.model.specs.declared.Mailbox.TheVariants.{M0, M1, M2}
@@ -220,7 +220,7 @@ goes-key a b v w =
 
 pub wire-order : (i : ByMailbox ℕ) (a b : Mailbox) → WireOrder i a b
 unfolding before key
-wire-order i a b = record { agrees = sym (goes-key a b (identifier i a) (identifier i b)) }
+wire-order i a b = record { agrees = sym (goes-key a b (at i a) (at i b)) }
 
 -- bit 0 of TI takes no part
 pub without-txrq : (x : ℕ) (b : Bool) → wire_key (x / 2 * 2 + one b) ≡ wire_key x

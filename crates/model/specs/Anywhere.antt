@@ -5,7 +5,7 @@ use Rattle.model.specs.Control.{nart, txfp}
 use Rattle.model.specs.Registers.{reset, has_request}
 use Rattle.model.specs.Step.{step}
 use Rattle.model.specs.Shown.{Done, next_of}
-use Rattle.model.specs.Queue.{flag}
+use Rattle.model.specs.Queue.{at}
 use Rattle.model.specs.Requests.{Requests, none_yet, after, entries}
 use Rattle.model.specs.Fairness.{Fairness, Served, meanwhile, every, under_request_order, requests_from}
 use Rattle.model.specs.Reachable.{InRange, StepsRange}
@@ -57,7 +57,7 @@ pub record FromState (z : Controller) (l : List steps.Step) : Type 0 where
   pub held : InRange z → requests_from z (requests_held z) l ≡ requests_held (after z l)
   pub fair : InRange z → Fairness z (requests_held z) l
   -- each request that the state holds counts as accepted just then
-  pub served : InRange z → (m : Mailbox) → flag (requests_held z).outstanding m ≡ true → every under_request_order (meanwhile m (requests_held z) (entries z l)) ≡ true
+  pub served : InRange z → (m : Mailbox) → at (requests_held z).outstanding m ≡ true → every under_request_order (meanwhile m (requests_held z) (entries z l)) ≡ true
       → Served m (requests_held z) (entries z l)
   pub reachable : InRange z → StepsRange l → InRange (after z l)
 

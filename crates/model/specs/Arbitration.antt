@@ -3,7 +3,7 @@
 use Rattle.std.specs.Prelude.{Bool, true, false, not, ◌&&◌, ◌||◌, List, [], ◌∷◌, ◌++◌, ◌≡◌, ℕ, zero, suc, ◌+◌, eqb, ltb, leb}
 use Rattle.base.specs.Base.{pick, bit}
 use Rattle.model.specs.Queue.{number, order_numbers, sender_numbers}
-use Rattle.model.specs.Mailboxes.{identifier, before, sent_identifier}
+use Rattle.model.specs.Mailboxes.{at, before, sent_identifier}
 use Rattle.model.specs.Step.{step}
 use Rattle.model.specs.Shown.{ti, txfp, next_of}
 use Rattle.model.specs.ReadBack.{has}
@@ -42,7 +42,7 @@ goes_before a v b w = wins (arbitration v) (arbitration w) || (not (wins (arbitr
 
 -- the definition `before` orders as the bits do
 pub record WireOrder (i : ByMailbox ℕ) (a b : Mailbox) : Type 0 where
-  pub agrees : before i a b ≡ goes_before a (identifier i a) b (identifier i b)
+  pub agrees : before i a b ≡ goes_before a (at i a) b (at i b)
 
 -- "EXID of a standard mailbox is ignored and sent as 0"
 pub record SentIdentifier (ti : ℕ) : Type 0 where

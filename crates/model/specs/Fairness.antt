@@ -2,7 +2,7 @@
 -- Document 01: "Request book", "How far each contract reaches".
 use Rattle.std.specs.Prelude.{Bool, true, false, not, ◌&&◌, List, [], ◌∷◌, ◌++◌, ◌≡◌, ℕ, ◌+◌, ◌≤◌, Option, Some, None}
 use Rattle.base.specs.Base.{pick, one}
-use Rattle.model.specs.Queue.{flag, same}
+use Rattle.model.specs.Queue.{at, same}
 use Rattle.model.specs.Registers.{reset}
 use Rattle.model.specs.Step.{step}
 use Rattle.model.specs.Shown.{tme, Done}
@@ -23,7 +23,7 @@ pub record Moment : Type 0 where
 -- what comes while the request of mailbox m is outstanding: up to its end, to a reset that drops it, or to the end of the list
 unfoldable pub meanwhile : Mailbox → Requests → List Entry → List Moment
 meanwhile m b [] = []
-meanwhile m b (e ∷ l) = pick (flag b.outstanding m) (record { requests = b; event = event e } ∷ meanwhile m (next b (event e)) l) []
+meanwhile m b (e ∷ l) = pick (at b.outstanding m) (record { requests = b; event = event e } ∷ meanwhile m (next b (event e)) l) []
 
 abbrev pub is_drop : Event → Bool
 is_drop nothing = false
@@ -36,8 +36,8 @@ is_drop (ends g) = false
 
 -- the request of m has ended by the end of the list; one that a reset drops has not
 unfoldable pub has_ended : Mailbox → Requests → List Entry → Bool
-has_ended m b [] = not (flag b.outstanding m)
-has_ended m b (e ∷ l) = pick (flag b.outstanding m) (not (is_drop (event e)) && has_ended m (next b (event e)) l) true
+has_ended m b [] = not (at b.outstanding m)
+has_ended m b (e ∷ l) = pick (at b.outstanding m) (not (is_drop (event e)) && has_ended m (next b (event e)) l) true
 
 -- ---- what is asked of that time, and what is counted in it
 
@@ -112,7 +112,7 @@ pub record Served (m : Mailbox) (b : Requests) (rest : List Entry) : Type 0 wher
 pub record Fairness (z : Controller) (b : Requests) (l : List steps.Step) : Type 0 where
   -- a mailbox reads as empty, by TME of a TSR read, exactly when it has no outstanding request
   pub read : Done (after z l) (Read 0x008)
-  pub empty : (m : Mailbox) → tme m (after z l) ≡ not (flag (requests_from z b l).outstanding m)
+  pub empty : (m : Mailbox) → tme m (after z l) ≡ not (at (requests_from z b l).outstanding m)
   -- each request that is accepted anywhere in the list, by its step s
   pub served : (before : List steps.Step) (s : steps.Step) (rest : List steps.Step) (m : Mailbox)
       → l ≡ before ++ s ∷ rest
@@ -162,4 +162,4 @@ pub record Starvation (n : ℕ) : Type 0 where
   pub kept : every (λ (x : Moment). not (is_drop x.event)) (meanwhile M0 (requests_at (before ++ request ∷ [])) (entries_from (before ++ request ∷ []) rest)) ≡ true
   pub others : count (other_well M0) (meanwhile M0 (requests_at (before ++ request ∷ [])) (entries_from (before ++ request ∷ []) rest)) ≡ n
   pub waits : has_ended M0 (requests_at (before ++ request ∷ [])) (entries_from (before ++ request ∷ []) rest) ≡ false
-  pub still_outstanding : flag (requests_after (requests_at (before ++ request ∷ [])) (entries_from (before ++ request ∷ []) rest)).outstanding M0 ≡ true
+  pub still_outstanding : at (requests_after (requests_at (before ++ request ∷ [])) (entries_from (before ++ request ∷ []) rest)).outstanding M0 ≡ true

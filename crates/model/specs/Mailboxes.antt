@@ -2,7 +2,8 @@
 -- Document 01: "Register map" (TI, TDT, TSR, CODE, LOW), "Bus events" (start, own end), "Order, filters, storage" (order).
 use Rattle.std.specs.Prelude.{Bool, false, not, ◌&&◌, ◌||◌, ℕ, ◌+◌, ◌*◌, ◌/◌, ◌%◌, ◌^◌, eqb, ltb, Option, Some, None}
 use Rattle.base.specs.Base.{pick, bit, bits, one}
-use Rattle.model.specs.Queue.{number, flag, holds, oldest, newest, is_from, besides, sender_number, two_or_more, requested, aborted_all, sending, off_wire, no_requests}
+pub use Rattle.model.specs.Queue.{at, put}
+use Rattle.model.specs.Queue.{number, holds, oldest, newest, is_from, besides, sender_number, two_or_more, requested, aborted_all, sending, off_wire, no_requests}
 use Rattle.model.specs.declared.Mailbox.{Mailbox}
 use Rattle.model.specs.declared.Mailbox.TheVariants.{M0, M1, M2}
 use Rattle.model.specs.declared.RequestOrder.{RequestOrder}
@@ -13,16 +14,6 @@ use Rattle.model.specs.declared.Transmit.{Transmit}
 use Rattle.model.specs.declared.ByMailbox.{ByMailbox}
 
 -- ---- one of three
-
-abbrev pub at : ByMailbox MailboxState → Mailbox → MailboxState
-at b M0 = b.m0
-at b M1 = b.m1
-at b M2 = b.m2
-
-abbrev pub put : ByMailbox MailboxState → Mailbox → MailboxState → ByMailbox MailboxState
-put b M0 x = record { m0 = x; m1 = b.m1; m2 = b.m2 }
-put b M1 x = record { m0 = b.m0; m1 = x; m2 = b.m2 }
-put b M2 x = record { m0 = b.m0; m1 = b.m1; m2 = x }
 
 abbrev pub with_words : MailboxState → ℕ → ℕ → ℕ → ℕ → MailboxState
 with_words x i t l h = record { ti = i; tdt = t; tdl = l; tdh = h; rqcp = x.rqcp; txok = x.txok; alst = x.alst; terr = x.terr }
@@ -115,14 +106,9 @@ wire_key ti =
 abbrev pub identifiers : ByMailbox MailboxState → ByMailbox ℕ
 identifiers b = record { m0 = b.m0.ti; m1 = b.m1.ti; m2 = b.m2.ti }
 
-abbrev pub identifier : ByMailbox ℕ → Mailbox → ℕ
-identifier i M0 = i.m0
-identifier i M1 = i.m1
-identifier i M2 = i.m2
-
 -- equal bits: the lower mailbox
 unfoldable pub key : ByMailbox ℕ → Mailbox → ℕ
-key i m = wire_key (identifier i m) * 4 + number m
+key i m = wire_key (at i m) * 4 + number m
 
 unfoldable pub before : ByMailbox ℕ → Mailbox → Mailbox → Bool
 before i a b = ltb (key i a) (key i b)
@@ -202,7 +188,7 @@ started t m time = record {
 -- an own end: 0 good, 7 arbitration lost, else an error, 8 (02, Q-4) too. The request is over if it went well, with NART=1, or
 -- with a remembered abort
 unfoldable pub over : Queue → Mailbox → ℕ → Bool → Bool
-over q m r nart = eqb r 0 || nart || flag q.aborts m
+over q m r nart = eqb r 0 || nart || at q.aborts m
 
 unfoldable pub outcome_flags : MailboxState → ℕ → Bool → MailboxState
 outcome_flags x r done = with_flags x (x.rqcp || done) (eqb r 0) (eqb r 7) (not (eqb r 0) && not (eqb r 7))

@@ -1,7 +1,7 @@
 -- The requests of the three mailboxes: their order, the mailbox that is transmitting, the remembered aborts.
 -- Document 01: "Register map" (TSR, TI with TXRQ), "Bus events" (start, own end). 01 says "on the wire" for transmitting,
 -- "own end" for the outcome of a transmission, "request order" for the order.
-use Rattle.std.specs.Prelude.{Bool, true, false, ◌&&◌, ◌||◌, List, [], ◌∷◌, ℕ, eqb, Option, Some, None}
+use Rattle.std.specs.Prelude.{Bool, true, false, ◌&&◌, ◌||◌, List, [], ◌∷◌, ℕ, eqb, Option, Some, None, is_none}
 use Rattle.base.specs.Base.{pick}
 use Rattle.model.specs.declared.Mailbox.{Mailbox}
 use Rattle.model.specs.declared.Mailbox.TheVariants.{M0, M1, M2}
@@ -31,15 +31,17 @@ same M2 M0 = false
 same M2 M1 = false
 same M2 M2 = true
 
-abbrev pub flag : ByMailbox Bool → Mailbox → Bool
-flag f M0 = f.m0
-flag f M1 = f.m1
-flag f M2 = f.m2
+-- what is kept for a mailbox
+abbrev pub at : {A : Type 0} → ByMailbox A → Mailbox → A
+at b M0 = b.m0
+at b M1 = b.m1
+at b M2 = b.m2
 
-abbrev pub flagged : ByMailbox Bool → Mailbox → Bool → ByMailbox Bool
-flagged f M0 b = record { m0 = b; m1 = f.m1; m2 = f.m2 }
-flagged f M1 b = record { m0 = f.m0; m1 = b; m2 = f.m2 }
-flagged f M2 b = record { m0 = f.m0; m1 = f.m1; m2 = b }
+-- the same with x for that mailbox
+abbrev pub put : {A : Type 0} → ByMailbox A → Mailbox → A → ByMailbox A
+put b M0 x = record { m0 = x; m1 = b.m1; m2 = b.m2 }
+put b M1 x = record { m0 = b.m0; m1 = x; m2 = b.m2 }
+put b M2 x = record { m0 = b.m0; m1 = b.m1; m2 = x }
 
 abbrev pub no_flags : ByMailbox Bool
 no_flags = record { m0 = false; m1 = false; m2 = false }
@@ -105,8 +107,7 @@ is_from None m = false
 is_from (Some a) m = same a m
 
 abbrev pub is_nobody : Option Mailbox → Bool
-is_nobody None = true
-is_nobody (Some a) = false
+is_nobody s = is_none s
 
 -- the number of a mailbox; 0 where there is none
 abbrev pub sender_number : Option Mailbox → ℕ
@@ -134,10 +135,10 @@ requested q m = record { order = joined q.order m; transmitting = q.transmitting
 
 -- the mailbox becomes empty, which clears ABRQ
 abbrev pub emptied : Queue → Mailbox → Queue
-emptied q m = record { order = without q.order m; transmitting = q.transmitting; aborts = flagged q.aborts m false }
+emptied q m = record { order = without q.order m; transmitting = q.transmitting; aborts = put q.aborts m false }
 
 abbrev pub remembered : Queue → Mailbox → Queue
-remembered q m = record { order = q.order; transmitting = q.transmitting; aborts = flagged q.aborts m true }
+remembered q m = record { order = q.order; transmitting = q.transmitting; aborts = put q.aborts m true }
 
 -- ABRQ: a pending mailbox empties, one on the wire remembers it, an empty one ignores it
 unfoldable pub aborted : Bool → Queue → Mailbox → Queue

@@ -3,7 +3,7 @@
 -- and are the listed ranges of document 02, Q-2 (docs/BLOCK.md).
 use Rattle.std.specs.Prelude.{Bool, true, false, not, ◌&&◌, List, [], ◌∷◌, ◌≡◌, ℕ, ◌+◌, ◌*◌, ◌-◌, ◌/◌, ◌%◌, ◌^◌, ◌<◌, ◌≤◌, length, Option, Some, None}
 use Rattle.base.specs.Base.{bit, bits, one}
-use Rattle.model.specs.Queue.{same, flag, holds, is_from}
+use Rattle.model.specs.Queue.{same, holds, is_from}
 use Rattle.model.specs.Mailboxes.{at, tdt_masked}
 use Rattle.model.specs.Reception.{data_bytes, bytes_kept, no_frame}
 use Rattle.model.specs.Control.{inrq, sleep, ttcm, lbkm, silm, mode_next, is_sleep, is_initialization, is_normal, boff, mcr_masked, ier_masked, btr_masked}
@@ -43,7 +43,7 @@ pub record QueueRange (q : Queue) : Type 0 where
   pub once : distinct q.order ≡ true
   pub carries : carried q.transmitting q.order ≡ true
   -- an abort is remembered only of the mailbox on the wire
-  pub aborts : (m : Mailbox) → flag q.aborts m ≡ true → is_from q.transmitting m ≡ true
+  pub aborts : (m : Mailbox) → at q.aborts m ≡ true → is_from q.transmitting m ≡ true
 
 -- TXRQ is not kept in `ti`; TXOK comes with RQCP; at most one of TXOK, ALST and TERR is set
 pub record MailboxRange (x : MailboxState) : Type 0 where

@@ -1,6 +1,5 @@
 -- The numbers of the refusals. Document 01: "Refusal numbers"; 10 and 11 are document 02's, Q-2 and Q-1.
-use Rattle.std.specs.Prelude.{ℕ, eqb, Result, Ok, Err}
-use Rattle.base.specs.Base.{pick}
+use Rattle.std.specs.Prelude.{ℕ, Result, Ok, Err}
 use Rattle.model.specs.declared.Refusal.{Refusal}
 use Rattle.model.specs.declared.Refusal.TheVariants.{NotMapped, NotWritable, ReadOnly, NotNow, OutOfRange, Short, UnknownTag, WrongLength, NoSpace, BadBlock, NotOpened}
 

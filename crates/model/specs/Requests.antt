@@ -2,7 +2,7 @@
 -- controller's state. Document 01: "Request book", one clause for each of its lines.
 use Rattle.std.specs.Prelude.{Bool, true, false, ◌&&◌, ◌||◌, List, [], ◌∷◌, ℕ, eqb, Option, Some, None}
 use Rattle.base.specs.Base.{pick, bit}
-use Rattle.model.specs.Queue.{numbered, flag, flagged, no_flags, is_from}
+use Rattle.model.specs.Queue.{numbered, at, put, no_flags, is_from}
 use Rattle.model.specs.Mailboxes.{abrq}
 use Rattle.model.specs.Registers.{register_at}
 use Rattle.model.specs.Step.{step}
@@ -105,21 +105,21 @@ none_yet = record { outstanding = no_flags; marks = no_flags; transmitting = Non
 
 -- a request that ends is no longer outstanding, and its mailbox's mark clears
 abbrev pub closed : Requests → Mailbox → Requests
-closed b m = record { outstanding = flagged b.outstanding m false; marks = flagged b.marks m false; transmitting = b.transmitting; nart = b.nart; txfp = b.txfp }
+closed b m = record { outstanding = put b.outstanding m false; marks = put b.marks m false; transmitting = b.transmitting; nart = b.nart; txfp = b.txfp }
 
 abbrev pub marked : Requests → Mailbox → Requests
-marked b m = record { outstanding = b.outstanding; marks = flagged b.marks m true; transmitting = b.transmitting; nart = b.nart; txfp = b.txfp }
+marked b m = record { outstanding = b.outstanding; marks = put b.marks m true; transmitting = b.transmitting; nart = b.nart; txfp = b.txfp }
 
 -- an ABRQ bit: an outstanding request that isn't on the wire ends; one on the wire sets its mailbox's mark
 abbrev pub abort_seen : Bool → Requests → Mailbox → Requests
-abort_seen a b m = pick (a && flag b.outstanding m) (pick (is_from b.transmitting m) (marked b m) (closed b m)) b
+abort_seen a b m = pick (a && at b.outstanding m) (pick (is_from b.transmitting m) (marked b m) (closed b m)) b
 
 abbrev pub wire_freed : Requests → Requests
 wire_freed b = record { outstanding = b.outstanding; marks = b.marks; transmitting = None; nart = b.nart; txfp = b.txfp }
 
 -- an own end: the request ends on the wire if the frame ended well, NART is 1 or the mark is set, else it stays outstanding
 abbrev pub ends_too : Requests → Mailbox → Bool → Bool
-ends_too b m good = good || b.nart || flag b.marks m
+ends_too b m good = good || b.nart || at b.marks m
 
 abbrev pub end_seen : Option Mailbox → Requests → Bool → Requests
 end_seen None b good = b
@@ -129,7 +129,7 @@ unfoldable pub next : Requests → Event → Requests
 next b nothing = b
 next b drops = none_yet
 next b (modes n t) = record { outstanding = b.outstanding; marks = b.marks; transmitting = b.transmitting; nart = n; txfp = t }
-next b (accepts m) = record { outstanding = flagged b.outstanding m true; marks = b.marks; transmitting = b.transmitting; nart = b.nart; txfp = b.txfp }
+next b (accepts m) = record { outstanding = put b.outstanding m true; marks = b.marks; transmitting = b.transmitting; nart = b.nart; txfp = b.txfp }
 next b (aborts f) = abort_seen f.m2 (abort_seen f.m1 (abort_seen f.m0 b M0) M1) M2
 next b (starts m) = record { outstanding = b.outstanding; marks = b.marks; transmitting = Some m; nart = b.nart; txfp = b.txfp }
 next b (ends good) = end_seen b.transmitting b good

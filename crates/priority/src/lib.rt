@@ -6,21 +6,23 @@ ghost use Rattle.model.specs.Mailboxes as mailboxes;
 
 use bits::bit;
 use model::{ByMailbox, Mailbox, MailboxState, RequestOrder, Transmit};
-use queue::{besides, newest, number, oldest};
+use queue::{at, besides, newest, number, oldest};
 
 pub mod tsr; // tsr.rt: TSR as it is read
 
 // A number that orders identifier words as the bits on the wire do: the top 11, then standard data, standard remote,
 // extended, then the low 18, then data before remote.
+#[tactic(auto, unfolding(model::specs::Mailboxes::wire_key))]
 fn wire_key(ti: u32) -> u32
     ensures { result ≡ mailboxes.wire_key ti }
 {
     let base = (ti >> 21) % 2048 * 2097152;
     let rtr = (ti >> 1) % 2;
     if bit(2, ti) {
-        return base + 1048576 + (ti >> 3) % 262144 * 2 + rtr;
+        base + 1048576 + (ti >> 3) % 262144 * 2 + rtr
+    } else {
+        base + rtr * 524288
     }
-    base + rtr * 524288
 }
 
 pub fn identifiers(b: ByMailbox<MailboxState>) -> ByMailbox<u32>
@@ -33,49 +35,36 @@ pub fn identifiers(b: ByMailbox<MailboxState>) -> ByMailbox<u32>
     }
 }
 
-fn identifier(i: ByMailbox<u32>, m: Mailbox) -> u32
-    ensures { result ≡ mailboxes.identifier i m }
-{
-    match m {
-        Mailbox::M0 => i.m0,
-        Mailbox::M1 => i.m1,
-        Mailbox::M2 => i.m2,
-    }
-}
-
 // Equal bits: the lower mailbox. A wire key has 32 bits, so this has 34.
+#[tactic(auto, unfolding(model::specs::Mailboxes::key))]
 fn key(i: ByMailbox<u32>, m: Mailbox) -> u64
     ensures { result ≡ mailboxes.key i m }
 {
-    let bits = wire_key(identifier(i, m)) as u64;
-    let n = number(m) as u64;
-    bits * 4 + n
+    u64::from(wire_key(at(i, m))) * 4 + u64::from(number(m))
 }
 
+#[tactic(auto, unfolding(model::specs::Mailboxes::before))]
 fn before(i: ByMailbox<u32>, a: Mailbox, b: Mailbox) -> bool
     ensures { result ≡ mailboxes.before i a b }
 {
     key(i, a) < key(i, b)
 }
 
+#[tactic(auto, unfolding(model::specs::Mailboxes::sooner))]
 fn sooner(i: ByMailbox<u32>, a: Mailbox, b: Mailbox) -> Mailbox
     ensures { result ≡ mailboxes.sooner i a b }
 {
-    if before(i, a, b) {
-        return a;
-    }
-    b
+    if before(i, a, b) { a } else { b }
 }
 
+#[tactic(auto, unfolding(model::specs::Mailboxes::later))]
 fn later(i: ByMailbox<u32>, a: Mailbox, b: Mailbox) -> Mailbox
     ensures { result ≡ mailboxes.later i a b }
 {
-    if before(i, a, b) {
-        return b;
-    }
-    a
+    if before(i, a, b) { b } else { a }
 }
 
+#[tactic(auto, unfolding(model::specs::Mailboxes::first_in_wire_order))]
 fn first_in_wire_order(i: ByMailbox<u32>, o: RequestOrder) -> Option<Mailbox>
     ensures { result ≡ mailboxes.first_in_wire_order i o }
 {
@@ -87,6 +76,7 @@ fn first_in_wire_order(i: ByMailbox<u32>, o: RequestOrder) -> Option<Mailbox>
     }
 }
 
+#[tactic(auto, unfolding(model::specs::Mailboxes::last_in_wire_order))]
 fn last_in_wire_order(i: ByMailbox<u32>, o: RequestOrder) -> Option<Mailbox>
     ensures { result ≡ mailboxes.last_in_wire_order i o }
 {
@@ -99,31 +89,32 @@ fn last_in_wire_order(i: ByMailbox<u32>, o: RequestOrder) -> Option<Mailbox>
 }
 
 // First in priority: request order if TXFP=1, else the bits on the wire.
+#[tactic(auto, unfolding(model::specs::Mailboxes::first))]
 pub fn first(txfp: bool, i: ByMailbox<u32>, o: RequestOrder) -> Option<Mailbox>
     ensures { result ≡ mailboxes.first txfp i o }
 {
     if txfp {
-        return oldest(o);
+        oldest(o)
+    } else {
+        first_in_wire_order(i, o)
     }
-    first_in_wire_order(i, o)
 }
 
+#[tactic(auto, unfolding(model::specs::Mailboxes::last))]
 pub fn last(txfp: bool, i: ByMailbox<u32>, o: RequestOrder) -> Option<Mailbox>
     ensures { result ≡ mailboxes.last txfp i o }
 {
     if txfp {
-        return newest(o);
+        newest(o)
+    } else {
+        last_in_wire_order(i, o)
     }
-    last_in_wire_order(i, o)
 }
 
 // The one on the wire stands first, so it is not the last where another waits.
 pub fn last_of(txfp: bool, t: Transmit) -> Option<Mailbox>
     ensures { result ≡ mailboxes.last_of txfp t }
 {
-    let b = t.mailboxes;
-    let q = t.queue;
-    let o = q.order;
-    let s = q.transmitting;
-    last(txfp, identifiers(b), besides(s, o))
+    let waiting = besides(t.queue.transmitting, t.queue.order);
+    last(txfp, identifiers(t.mailboxes), waiting)
 }

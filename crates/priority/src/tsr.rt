@@ -5,17 +5,18 @@ ghost use Rattle.model.specs.Mailboxes as mailboxes;
 ghost use Rattle.priority.specs.Status as status;
 
 use super::last_of;
-use bits::one;
 use model::{ByMailbox, Mailbox, MailboxState, RequestOrder, Transmit};
-use queue::{holds, is_from, sender_number, two_or_more};
+use queue::{holds, sender_number, two_or_more};
 
+#[tactic(auto, unfolding(crate::specs::Status::as_number))]
 fn as_number(f: ByMailbox<bool>) -> u32
     ensures { (result ≡ status.as_number f) × (result < 8) }
 {
-    one(f.m0) + one(f.m1) * 2 + one(f.m2) * 4
+    u32::from(f.m0) + u32::from(f.m1) * 2 + u32::from(f.m2) * 4
 }
 
 // TME: the mailbox is empty.
+#[tactic(auto, unfolding(crate::specs::Status::tme_bits))]
 fn tme_bits(o: RequestOrder) -> ByMailbox<bool>
     ensures { result ≡ status.tme_bits o }
 {
@@ -27,56 +28,58 @@ fn tme_bits(o: RequestOrder) -> ByMailbox<bool>
 }
 
 // LOW: with two or more not empty, the lowest in priority.
+#[tactic(auto, using(model::proofs::Compared::equal_is_from), unfolding(crate::specs::Status::low_bits))]
 fn low_bits(o: RequestOrder, last: Option<Mailbox>) -> ByMailbox<bool>
     ensures { result ≡ status.low_bits o last }
 {
     let several = two_or_more(o);
     ByMailbox {
-        m0: several & is_from(last, Mailbox::M0),
-        m1: several & is_from(last, Mailbox::M1),
-        m2: several & is_from(last, Mailbox::M2),
+        m0: several && last == Some(Mailbox::M0),
+        m1: several && last == Some(Mailbox::M1),
+        m2: several && last == Some(Mailbox::M2),
     }
 }
 
 // CODE: the lowest empty mailbox, else the lowest in priority.
+#[tactic(auto, unfolding(crate::specs::Status::code_of))]
 fn code_of(tme: ByMailbox<bool>, last: Option<Mailbox>) -> u32
     ensures { (result ≡ status.code_of tme last) × (result < 4) }
 {
-    if tme.m0 {
-        return 0;
+    match tme {
+        ByMailbox { m0: true, .. } => 0,
+        ByMailbox { m1: true, .. } => 1,
+        ByMailbox { m2: true, .. } => 2,
+        _ => sender_number(last),
     }
-    if tme.m1 {
-        return 1;
-    }
-    if tme.m2 {
-        return 2;
-    }
-    sender_number(last)
 }
 
+#[tactic(auto, using(base::proofs::Flags::from_bool_one, base::proofs::Flags::one_small), unfolding(model::specs::Mailboxes::tsr_byte))]
 fn tsr_byte(x: MailboxState, abort: bool) -> u32
     ensures { (result ≡ mailboxes.tsr_byte x abort) × (result < 256) }
 {
-    one(x.rqcp) + one(x.txok) * 2 + one(x.alst) * 4 + one(x.terr) * 8 + one(abort) * 128
+    u32::from(x.rqcp)
+        + u32::from(x.txok) * 2
+        + u32::from(x.alst) * 4
+        + u32::from(x.terr) * 8
+        + u32::from(abort) * 128
 }
 
+#[tactic(auto, unfolding(crate::specs::Status::flag_bytes))]
 fn flag_bytes(b: ByMailbox<MailboxState>, f: ByMailbox<bool>) -> u32
     ensures { (result ≡ status.flag_bytes b f) × (result < 2 ^ 24) }
 {
     tsr_byte(b.m0, f.m0) + tsr_byte(b.m1, f.m1) * 256 + tsr_byte(b.m2, f.m2) * 65536
 }
 
+#[tactic(auto, using(crate::proofs::StatusParts::tsr_parts))]
 pub fn tsr(txfp: bool, t: Transmit) -> u32
     ensures { result ≡ mailboxes.tsr txfp t }
 {
-    let b = t.mailboxes;
     let q = t.queue;
-    let o = q.order;
-    let f = q.aborts;
     let last = last_of(txfp, t);
-    let tme = tme_bits(o);
-    let code = code_of(tme, last) * 16777216;
-    let empty = as_number(tme) * 67108864;
-    let low = as_number(low_bits(o, last)) * 536870912;
-    flag_bytes(b, f) + code + empty + low
+    let tme = tme_bits(q.order);
+    flag_bytes(t.mailboxes, q.aborts)
+        + code_of(tme, last) * 0x1000000
+        + as_number(tme) * 0x4000000
+        + as_number(low_bits(q.order, last)) * 0x20000000
 }

@@ -1,4 +1,5 @@
 // The requests of the three mailboxes: their order, the mailbox that is transmitting, the remembered aborts.
+// Functions, since the types are those of model, which has none; a trait for them alone would be no plainer.
 #![tactic(auto)]
 
 ghost use Rattle.std.specs.Prelude.{◌≡◌};
@@ -7,79 +8,31 @@ ghost use Rattle.model.specs.Queue as queue;
 
 use model::{ByMailbox, Mailbox, Queue, RequestOrder};
 
-// ---- mailboxes and their numbers
+// ---- mailboxes and what is kept for each
 
 pub fn number(m: Mailbox) -> u32
     ensures { result ≡ queue.number m }
 {
-    match m {
-        Mailbox::M0 => 0,
-        Mailbox::M1 => 1,
-        Mailbox::M2 => 2,
-    }
+    m as u32
 }
 
-pub fn same(a: Mailbox, b: Mailbox) -> bool
-    ensures { result ≡ queue.same a b }
-{
-    match a {
-        Mailbox::M0 => match b {
-            Mailbox::M0 => true,
-            Mailbox::M1 => false,
-            Mailbox::M2 => false,
-        },
-        Mailbox::M1 => match b {
-            Mailbox::M0 => false,
-            Mailbox::M1 => true,
-            Mailbox::M2 => false,
-        },
-        Mailbox::M2 => match b {
-            Mailbox::M0 => false,
-            Mailbox::M1 => false,
-            Mailbox::M2 => true,
-        },
-    }
-}
-
-pub fn flag(f: ByMailbox<bool>, m: Mailbox) -> bool
-    ensures { result ≡ queue.flag f m }
+pub fn at<T: Copy>(b: ByMailbox<T>, m: Mailbox) -> T
+    ensures { result ≡ queue.at b m }
 {
     match m {
-        Mailbox::M0 => f.m0,
-        Mailbox::M1 => f.m1,
-        Mailbox::M2 => f.m2,
+        Mailbox::M0 => b.m0,
+        Mailbox::M1 => b.m1,
+        Mailbox::M2 => b.m2,
     }
 }
 
-fn flagged(f: ByMailbox<bool>, m: Mailbox, b: bool) -> ByMailbox<bool>
-    ensures { result ≡ queue.flagged f m b }
+pub fn put<T: Copy>(b: ByMailbox<T>, m: Mailbox, x: T) -> ByMailbox<T>
+    ensures { result ≡ queue.put b m x }
 {
     match m {
-        Mailbox::M0 => ByMailbox {
-            m0: b,
-            m1: f.m1,
-            m2: f.m2,
-        },
-        Mailbox::M1 => ByMailbox {
-            m0: f.m0,
-            m1: b,
-            m2: f.m2,
-        },
-        Mailbox::M2 => ByMailbox {
-            m0: f.m0,
-            m1: f.m1,
-            m2: b,
-        },
-    }
-}
-
-fn no_flags() -> ByMailbox<bool>
-    ensures { result ≡ queue.no_flags }
-{
-    ByMailbox {
-        m0: false,
-        m1: false,
-        m2: false,
+        Mailbox::M0 => ByMailbox { m0: x, ..b },
+        Mailbox::M1 => ByMailbox { m1: x, ..b },
+        Mailbox::M2 => ByMailbox { m2: x, ..b },
     }
 }
 
@@ -91,9 +44,9 @@ pub fn holds(o: RequestOrder, m: Mailbox) -> bool
 {
     match o {
         RequestOrder::Empty => false,
-        RequestOrder::One(a) => same(a, m),
-        RequestOrder::Two(a, b) => same(a, m) | same(b, m),
-        RequestOrder::Three(a, b, c) => same(a, m) | same(b, m) | same(c, m),
+        RequestOrder::One(a) => a == m,
+        RequestOrder::Two(a, b) => a == m || b == m,
+        RequestOrder::Three(a, b, c) => a == m || b == m || c == m,
     }
 }
 
@@ -113,34 +66,13 @@ fn without(o: RequestOrder, m: Mailbox) -> RequestOrder
     ensures { result ≡ queue.without o m }
 {
     match o {
-        RequestOrder::Empty => RequestOrder::Empty,
-        RequestOrder::One(a) => {
-            if same(a, m) {
-                return RequestOrder::Empty;
-            }
-            RequestOrder::One(a)
-        }
-        RequestOrder::Two(a, b) => {
-            if same(a, m) {
-                return RequestOrder::One(b);
-            }
-            if same(b, m) {
-                return RequestOrder::One(a);
-            }
-            RequestOrder::Two(a, b)
-        }
-        RequestOrder::Three(a, b, c) => {
-            if same(a, m) {
-                return RequestOrder::Two(b, c);
-            }
-            if same(b, m) {
-                return RequestOrder::Two(a, c);
-            }
-            if same(c, m) {
-                return RequestOrder::Two(a, b);
-            }
-            RequestOrder::Three(a, b, c)
-        }
+        RequestOrder::One(a) if a == m => RequestOrder::Empty,
+        RequestOrder::Two(a, b) if a == m => RequestOrder::One(b),
+        RequestOrder::Two(a, b) if b == m => RequestOrder::One(a),
+        RequestOrder::Three(a, b, c) if a == m => RequestOrder::Two(b, c),
+        RequestOrder::Three(a, b, c) if b == m => RequestOrder::Two(a, c),
+        RequestOrder::Three(a, b, c) if c == m => RequestOrder::Two(a, b),
+        _ => o,
     }
 }
 
@@ -149,9 +81,7 @@ pub fn oldest(o: RequestOrder) -> Option<Mailbox>
 {
     match o {
         RequestOrder::Empty => None,
-        RequestOrder::One(a) => Some(a),
-        RequestOrder::Two(a, _) => Some(a),
-        RequestOrder::Three(a, _, _) => Some(a),
+        RequestOrder::One(a) | RequestOrder::Two(a, _) | RequestOrder::Three(a, _, _) => Some(a),
     }
 }
 
@@ -160,63 +90,30 @@ pub fn newest(o: RequestOrder) -> Option<Mailbox>
 {
     match o {
         RequestOrder::Empty => None,
-        RequestOrder::One(a) => Some(a),
-        RequestOrder::Two(_, b) => Some(b),
-        RequestOrder::Three(_, _, c) => Some(c),
+        RequestOrder::One(a) | RequestOrder::Two(_, a) | RequestOrder::Three(_, _, a) => Some(a),
     }
 }
 
 pub fn is_empty(o: RequestOrder) -> bool
     ensures { result ≡ queue.is_empty o }
 {
-    match o {
-        RequestOrder::Empty => true,
-        RequestOrder::One(_) => false,
-        RequestOrder::Two(_, _) => false,
-        RequestOrder::Three(_, _, _) => false,
-    }
+    matches!(o, RequestOrder::Empty)
 }
 
 // Two or more mailboxes are not empty.
 pub fn two_or_more(o: RequestOrder) -> bool
     ensures { result ≡ queue.two_or_more o }
 {
-    match o {
-        RequestOrder::Empty => false,
-        RequestOrder::One(_) => false,
-        RequestOrder::Two(_, _) => true,
-        RequestOrder::Three(_, _, _) => true,
-    }
+    matches!(o, RequestOrder::Two(..) | RequestOrder::Three(..))
 }
 
 // ---- the mailbox that is transmitting
-
-pub fn is_from(s: Option<Mailbox>, m: Mailbox) -> bool
-    ensures { result ≡ queue.is_from s m }
-{
-    match s {
-        None => false,
-        Some(a) => same(a, m),
-    }
-}
-
-pub fn is_nobody(s: Option<Mailbox>) -> bool
-    ensures { result ≡ queue.is_nobody s }
-{
-    match s {
-        None => true,
-        Some(_) => false,
-    }
-}
 
 // The number of a mailbox; 0 where there is none.
 pub fn sender_number(s: Option<Mailbox>) -> u32
     ensures { result ≡ queue.sender_number s }
 {
-    match s {
-        None => 0,
-        Some(m) => number(m),
-    }
+    s.map_or(0, number)
 }
 
 // The order without the mailbox that is transmitting.
@@ -237,20 +134,20 @@ pub fn no_requests() -> Queue
     Queue {
         order: RequestOrder::Empty,
         transmitting: None,
-        aborts: no_flags(),
+        aborts: ByMailbox {
+            m0: false,
+            m1: false,
+            m2: false,
+        },
     }
 }
 
 fn requested(q: Queue, m: Mailbox) -> Queue
     ensures { result ≡ queue.requested q m }
 {
-    let o = q.order;
-    let s = q.transmitting;
-    let f = q.aborts;
     Queue {
-        order: joined(o, m),
-        transmitting: s,
-        aborts: f,
+        order: joined(q.order, m),
+        ..q
     }
 }
 
@@ -258,54 +155,44 @@ fn requested(q: Queue, m: Mailbox) -> Queue
 pub fn requested_if(b: bool, q: Queue, m: Mailbox) -> Queue
     ensures { result ≡ base.pick b (queue.requested q m) q }
 {
-    if b {
-        return requested(q, m);
-    }
-    q
+    if b { requested(q, m) } else { q }
 }
 
 // The mailbox becomes empty, which clears ABRQ.
 fn emptied(q: Queue, m: Mailbox) -> Queue
     ensures { result ≡ queue.emptied q m }
 {
-    let o = q.order;
-    let s = q.transmitting;
-    let f = q.aborts;
     Queue {
-        order: without(o, m),
-        transmitting: s,
-        aborts: flagged(f, m, false),
+        order: without(q.order, m),
+        aborts: put(q.aborts, m, false),
+        ..q
     }
 }
 
 fn remembered(q: Queue, m: Mailbox) -> Queue
     ensures { result ≡ queue.remembered q m }
 {
-    let o = q.order;
-    let s = q.transmitting;
-    let f = q.aborts;
     Queue {
-        order: o,
-        transmitting: s,
-        aborts: flagged(f, m, true),
+        aborts: put(q.aborts, m, true),
+        ..q
     }
 }
 
 // ABRQ: a pending mailbox empties, one on the wire remembers it, an empty one ignores it.
+#[tactic(auto, using(model::proofs::Compared::equal_is_from), unfolding(model::specs::Queue::aborted))]
 fn aborted(b: bool, q: Queue, m: Mailbox) -> Queue
     ensures { result ≡ queue.aborted b q m }
 {
-    let o = q.order;
-    let s = q.transmitting;
-    if b & holds(o, m) {
-        if is_from(s, m) {
-            return remembered(q, m);
-        }
-        return emptied(q, m);
+    if !(b && holds(q.order, m)) {
+        q
+    } else if q.transmitting == Some(m) {
+        remembered(q, m)
+    } else {
+        emptied(q, m)
     }
-    q
 }
 
+#[tactic(auto, unfolding(model::specs::Queue::aborted_all))]
 pub fn aborted_all(q: Queue, f: ByMailbox<bool>) -> Queue
     ensures { result ≡ queue.aborted_all q f }
 {
@@ -317,34 +204,26 @@ pub fn aborted_all(q: Queue, f: ByMailbox<bool>) -> Queue
 pub fn sending(q: Queue, m: Mailbox) -> Queue
     ensures { result ≡ queue.sending q m }
 {
-    let requests = q.order;
-    let f = q.aborts;
     Queue {
-        order: requests,
         transmitting: Some(m),
-        aborts: f,
+        ..q
     }
 }
 
 fn freed(q: Queue) -> Queue
     ensures { result ≡ queue.freed q }
 {
-    let pending = q.order;
-    let f = q.aborts;
     Queue {
-        order: pending,
         transmitting: None,
-        aborts: f,
+        ..q
     }
 }
 
 // A request that is not over is pending in its old place.
+#[tactic(auto, unfolding(model::specs::Queue::off_wire))]
 pub fn off_wire(q: Queue, m: Mailbox, over: bool) -> Queue
     ensures { result ≡ queue.off_wire q m over }
 {
     let f = freed(q);
-    if over {
-        return emptied(f, m);
-    }
-    f
+    if over { emptied(f, m) } else { f }
 }

@@ -6,7 +6,7 @@ use native.Mathlib.Omega.{arith}
 use lib.Dec.{eqb, ltb}
 use borrow.Author.Tests.{eqb-true, ltb-true, leb-true, ltb-false, eq-eqb, lt-ltb, le-leb}
 use Rattle.base.specs.Base.{bit, bits, one}
-use Rattle.model.specs.Queue.{holds, flag, is_from}
+use Rattle.model.specs.Queue.{holds, is_from}
 use Rattle.model.specs.Mailboxes.{at}
 use Rattle.model.specs.Reception.{data_bytes, bytes_kept, no_frame}
 use Rattle.model.specs.Control.{inrq, sleep, ttcm, mode_next, mode_bits, is_initialization, is_normal, boff}
@@ -44,7 +44,7 @@ queue_out q h =
     record { once = t.0; carries = t.1.0; aborts = go t.1.1 }
   where
     go : Is (not q.aborts.m0 || is_from q.transmitting M0) × (Is (not q.aborts.m1 || is_from q.transmitting M1) × (Is (not q.aborts.m2 || is_from q.transmitting M2) × Unit {0}))
-        → (m : Mailbox) → flag q.aborts m ≡ true → is_from q.transmitting m ≡ true
+        → (m : Mailbox) → at q.aborts m ≡ true → is_from q.transmitting m ≡ true
     go t M0 = if_out _ _ t.0
     go t M1 = if_out _ _ t.1.0
     go t M2 = if_out _ _ t.1.1.0

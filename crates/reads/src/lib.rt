@@ -45,9 +45,8 @@ pub fn read_at(o: u16, c: Core, banks: [u32; 28]) -> Shown
     match o {
         0x000 => found(c.control.mcr),
         0x004 => {
-            let q = c.transmit.queue;
-            let x = q.transmitting;
-            found(control::msr_word(c.control, queue::is_nobody(x)))
+            let x = c.transmit.queue.transmitting;
+            found(control::msr_word(c.control, x.is_none()))
         }
         0x008 => found(priority::tsr::tsr(control::txfp(c.control), c.transmit)),
         0x00C => found(receive::rfr_word(c.fifo0)),

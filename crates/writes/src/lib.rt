@@ -60,15 +60,18 @@ pub fn written(x: Register, c: Core, w: u32) -> Core
             d
         }
         Register::Tdt(m) => {
-            d.transmit = mailboxes::store_tdt(c.transmit, m, w);
+            let x = mailboxes::at(c.transmit.mailboxes, m);
+            d.transmit = mailboxes::with_mailbox(c.transmit, m, mailboxes::tdt_written(x, w));
             d
         }
         Register::Tdl(m) => {
-            d.transmit = mailboxes::store_tdl(c.transmit, m, w);
+            let x = mailboxes::at(c.transmit.mailboxes, m);
+            d.transmit = mailboxes::with_mailbox(c.transmit, m, mailboxes::tdl_written(x, w));
             d
         }
         Register::Tdh(m) => {
-            d.transmit = mailboxes::store_tdh(c.transmit, m, w);
+            let x = mailboxes::at(c.transmit.mailboxes, m);
+            d.transmit = mailboxes::with_mailbox(c.transmit, m, mailboxes::tdh_written(x, w));
             d
         }
         Register::Ri(_) => d,

@@ -1,5 +1,6 @@
 -- Each arm's offset is a constant, so that its register is computed; the last arm is of the banks' words and of no register.
 use Rattle.model.specs.Registers.{register_at, control_register, block_register, mailbox_register, output_register, filter_register, read_word}
+use Rattle.model.proofs.Compared.{none_nobody}
 use Rattle.reads.specs.Shown.{read_at}
 use Rattle.reads.proofs.OtherOffsets.{other_offset}
 use Rattle.reads.proofs.read_at.Goals as goal
@@ -10,7 +11,7 @@ returns-in-0 c = simp (c.found.ensures, c.in-0.is)
 
 pub returns-in-4 : goal.returns-in-4
 unfolding read_at register_at control_register read_word
-returns-in-4 c = simp (c.found-in-4.ensures, c.msr_word.ensures, c.is_nobody.ensures, c.in-4.is)
+returns-in-4 c = simp (c.found-in-4.ensures, c.msr_word.ensures, none_nobody _ _ c.is_none.ensures, c.in-4.is)
 
 pub returns-in-8 : goal.returns-in-8
 unfolding read_at register_at control_register read_word

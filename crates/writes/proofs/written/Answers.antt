@@ -43,15 +43,15 @@ returns-in-Ti c = rw (c.in-Ti.is, c.requested_by-d.ensures)
 
 pub returns-in-Tdt : goal.returns-in-Tdt
 unfolding written
-returns-in-Tdt c = rw (c.in-Tdt.is, c.store_tdt-d.ensures)
+returns-in-Tdt c = rw (c.in-Tdt.is, c.with_mailbox-d.ensures, c.tdt_written.ensures, c.at-x.ensures)
 
 pub returns-in-Tdl : goal.returns-in-Tdl
 unfolding written
-returns-in-Tdl c = rw (c.in-Tdl.is, c.store_tdl-d.ensures)
+returns-in-Tdl c = rw (c.in-Tdl.is, c.with_mailbox-d-in-Tdl.ensures, c.tdl_written.ensures, c.at-x-in-Tdl.ensures)
 
 pub returns-in-Tdh : goal.returns-in-Tdh
 unfolding written
-returns-in-Tdh c = rw (c.in-Tdh.is, c.store_tdh-d.ensures)
+returns-in-Tdh c = rw (c.in-Tdh.is, c.with_mailbox-d-in-Tdh.ensures, c.tdh_written.ensures, c.at-x-in-Tdh.ensures)
 
 pub returns-in-Ri : goal.returns-in-Ri
 unfolding written

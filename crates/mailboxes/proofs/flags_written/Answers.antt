@@ -1,4 +1,0 @@
-use Rattle.mailboxes.proofs.flags_written.Goals as goal
-
-pub returns : goal.returns
-returns c = simp (c.completed.ensures, c.cleared.ensures)

@@ -1,4 +1,0 @@
-use Rattle.mailboxes.proofs.with_mailbox.Goals as goal
-
-pub returns : goal.returns
-returns c = simp c.put-d.ensures

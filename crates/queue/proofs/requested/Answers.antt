@@ -1,4 +1,0 @@
-use Rattle.queue.proofs.requested.Goals as goal
-
-pub returns : goal.returns
-returns c = simp c.joined.ensures
