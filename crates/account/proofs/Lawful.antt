@@ -1,6 +1,7 @@
 -- The laws of an account: each is a fact about a few tests, looked at case by case.
 use Rattle.std.proofs.Common.{Some, None, Ok, Err}
-use mathlib.Core.Path.{◌≡◌, refl, sym}
+use Rattle.std.proofs.lemmas.Bool.{or_left, or_right}
+use mathlib.Core.Path.{◌≡◌, refl}
 use mathlib.Core.Bool.{Bool, true, false, not, ◌&&◌, ◌||◌, true≢false}
 use mathlib.Core.List.{List}
 use Prim.Native.Nat.{ℕ, ◌+◌, ◌-◌, ◌%◌}
@@ -61,14 +62,6 @@ placed (R2 b) = record { offset = refl }
 placed Absent = record { offset = refl }
 
 -- ---- reasons
-
-or_left : (a b : Bool) → a ≡ true → (a || b) ≡ true
-or_left true b h = refl
-or_left false b h = absurd (true≢false (sym h))
-
-or_right : (a b : Bool) → b ≡ true → (a || b) ≡ true
-or_right true b h = refl
-or_right false b h = h
 
 -- one condition keeps a step from being refused, or has it refused
 needed : (k : ℕ) (b : Bool) → eqb (pick b 0 k) 0 ≡ false → (k ≡ pick b 0 k) × (not b ≡ true)

@@ -26,23 +26,18 @@ impl Fault {
     }
 }
 
-fn byte_at(rest: &[u8], i: usize) -> u8
-    ensures { result ≡ scripts.byte_at rest.now i }
-{
-    rest.get(i).copied().unwrap_or(0)
-}
-
 // `rest` is the script from the record on, which is refused so.
 #[tactic(auto, unfolding(crate::specs::Faults::fault_in))]
 pub fn fault_in(refusal: Refusal, rest: &[u8]) -> Fault
     ensures { result ≡ faults.fault_in refusal rest.now }
 {
-    let tag = byte_at(rest, 0);
+    let byte_at = |i: usize| rest.get(i).copied().unwrap_or(0);
+    let tag = byte_at(0);
     let wanted = records::body_length(tag) as u64;
     let left = rest.len() as u64;
     match refusal {
         Refusal::WrongLength => Fault::WrongLength {
-            length: u64::from(byte_at(rest, 1)) + u64::from(byte_at(rest, 2)) * 256,
+            length: u64::from(u16::from_le_bytes([byte_at(1), byte_at(2)])),
             tag,
             wanted,
         },

@@ -101,7 +101,7 @@ pub fn changes(old: [Aspect; 12], new: [Aspect; 12]) -> [Option<Aspect>; 12]
 
 // ---- the account
 
-// `taken`: of a frame, which filter of which FIFO took it, if any did.
+// `taken`: of a frame, which filter of which FIFO took it, if any did. Code, lines and word are the step's answer (model::Stepped).
 #[derive(Clone, Copy)]
 pub struct Account {
     pub register: Register,

@@ -3,7 +3,7 @@ use mathlib.Core.Bool.{Bool}
 use mathlib.Core.Path.{◌≡◌, refl, sym, ap, ◌∙◌}
 use mathlib.Core.List.{List, [], ◌∷◌, ◌++◌}
 use Prim.Native.Nat.{ℕ, zero, suc, ◌+◌, ◌-◌, ◌*◌, ◌^◌, ◌<◌, ◌≤◌}
-use native.Mathlib.Nat.{zero-mul}
+use native.Mathlib.Nat.{sub-zero, zero-mul}
 use native.Mathlib.Numerals.{add-one}
 use native.Mathlib.Omega.{arith}
 use lib.ListN.{length, get_or, take, drop, drop_of_length-le}
@@ -113,20 +113,18 @@ module _ (s z : Said) (w row i n : ℕ) where
   unfolding row_on with_fields
   row-ended h q = sym (ap (λ (x : List Found). with_fields s x w) (ap (row_on row i) (none_left i n h))) ∙ q
 
-module _ (s z : Said) (w row k n : ℕ) where
-  next : k < n → fields_on (row + k) (n - k) ≡ row_fields (row + k) ++ fields_on (row + (k + 1)) (n - (k + 1))
+module _ (s z : Said) (w row end : ℕ) where
+  next : row < end → fields_on row (end - row) ≡ row_fields row ++ fields_on (row + 1) (end - (row + 1))
   unfolding fields_on
-  next h =
-      let e : row + k + 1 ≡ row + (k + 1) = omega arith in
-      ap (fields_on (row + k)) (left k n h) ∙ ap (λ (r : ℕ). row_fields (row + k) ++ fields_on r (n - (k + 1))) e
+  next h = ap (fields_on row) (left row end h)
 
-  pub fields_on_lem : (t : Said) → k < n → t ≡ with_fields s (row_fields (row + k)) w → with_fields s (fields_on (row + k) (n - k)) w ≡ z → with_fields t (fields_on (row + (k + 1)) (n - (k + 1))) w ≡ z
+  pub fields_on_lem : (t : Said) → row < end → t ≡ with_fields s (row_fields row) w → with_fields s (fields_on row (end - row)) w ≡ z → with_fields t (fields_on (row + 1) (end - (row + 1))) w ≡ z
   fields_on_lem t h e q =
-      fields-step s t z (row_fields (row + k)) (fields_on (row + (k + 1)) (n - (k + 1))) (fields_on (row + k) (n - k)) w (next h) e q
+      fields-step s t z (row_fields row) (fields_on (row + 1) (end - (row + 1))) (fields_on row (end - row)) w (next h) e q
 
-  pub fields-ended : n ≤ k → with_fields s (fields_on (row + k) (n - k)) w ≡ z → s ≡ z
+  pub fields-ended : end ≤ row → with_fields s (fields_on row (end - row)) w ≡ z → s ≡ z
   unfolding fields_on with_fields
-  fields-ended h q = sym (ap (λ (x : List Found). with_fields s x w) (ap (fields_on (row + k)) (none_left k n h))) ∙ q
+  fields-ended h q = sym (ap (λ (x : List Found). with_fields s x w) (ap (fields_on row) (none_left row end h))) ∙ q
 
 -- field by field, and all at once
 pub all_said : (s : Said) (fs : List Found) (w : ℕ) → with_fields s fs w ≡ record { line = put_all s.line (all_text fs w); rest = rest_of fs w s.rest }
@@ -136,15 +134,12 @@ all_said s (f ∷ l) w = all_said (with_field s f w) l w ∙ ap (λ (x : Line). 
 
 -- ---- one field
 
-none-taken : (n : ℕ) → n - 0 ≡ n
-none-taken n = omega arith
-
 module _ (s : Said) (f : Found) (w v : ℕ) (h : v ≡ field_value f w) where
   pub hidden : v ≡ 0 → s ≡ with_field s f w
   unfolding with_field field_text put_all
   hidden e =
       let z : field_value f w ≡ 0 = sym h ∙ e in
-      let r : s.rest ≡ s.rest - placed f w = sym (ap (λ (x : ℕ). s.rest - x) (ap (λ (x : ℕ). x * 2 ^ place f) z ∙ zero-mul (2 ^ place f)) ∙ none-taken s.rest) in
+      let r : s.rest ≡ s.rest - placed f w = sym (ap (λ (x : ℕ). s.rest - x) (ap (λ (x : ℕ). x * 2 ^ place f) z ∙ zero-mul (2 ^ place f)) ∙ sub-zero s.rest) in
       rw (eq-eqb (field_value f w) 0 z) (ap (λ (n : ℕ). record { line = s.line; rest = n }) r)
 
   pub shown : (l : Line) (n : ℕ) → (v ≡ 0 → ⊥) → l ≡ put_all s.line (32 ∷ (name_text f.row f.index ++ number_of f (field_value f w)))

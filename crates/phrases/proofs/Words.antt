@@ -2,10 +2,10 @@
 use mathlib.Core.Bool.{Bool, true, false}
 use mathlib.Core.Path.{◌≡◌, refl, sym, ap, ◌∙◌}
 use Prim.Native.Nat.{ℕ, ◌*◌, ◌/◌, ◌%◌, ◌^◌, ◌<◌, ◌≤◌}
-use native.Mathlib.Nat.{one-mul, zero-mod, div-eq_of_lt, mod-eq_of_lt, mod-le, lt_of_lt_of_le, lt_of_le_of_lt, le_trans, mul-le-mul_right}
+use native.Mathlib.Nat.{zero-mod, div-eq_of_lt, mod-eq_of_lt, mod-le, lt_of_lt_of_le, lt_of_le_of_lt, le_trans, mul-le-mul_right}
 use native.Mathlib.Omega.{arith}
 use lib.Dec.{eqb}
-use lib.Pow.{pow_mono, pow-lt, split}
+use lib.Pow.{pow_mono, split}
 use borrow.Author.Tests.{eqb-true, eqb-false, eq-eqb, ne_eqb}
 use Rattle.std.proofs.Common.{Some, None}
 use Rattle.base.specs.Base.{pick, bits}
@@ -18,10 +18,6 @@ use Rattle.phrases.specs.Names.{field_value, placed, is_other, field_of, amount_
 
 no_field : (i n w : ℕ) → 32 ≤ i → w < 2 ^ 32 → bits i n w ≡ 0
 no_field i n w h l = ap (λ (x : ℕ). x % 2 ^ n) (div-eq_of_lt (lt_of_lt_of_le l (pow_mono h))) ∙ zero-mod (2 ^ n)
-
--- the code's `1 << n`
-pub one_shifted : (n : ℕ) → n < 32 → 1 * 2 ^ n % 2 ^ 32 ≡ 2 ^ n
-one_shifted n h = simp one-mul (mod-eq_of_lt (pow-lt h))
 
 placed-le : (i n w : ℕ) → bits i n w * 2 ^ i ≤ w
 placed-le i n w = le_trans (mul-le-mul_right (2 ^ i) (mod-le (w / 2 ^ i) (2 ^ n))) (omega (arith, split w i))

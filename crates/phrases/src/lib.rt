@@ -84,7 +84,8 @@ struct Field {
     placed: u32,
 }
 
-// STID is not shown of an extended identifier, EXID not of a standard one.
+// Whether a field is not shown. `shown` is a byte of the table of names, 1 for what a standard identifier has (STID) and 2 for what an
+// extended one has (EXID), 0 for all others.
 fn is_other(shown: u32, w: u32) -> bool
     ensures { result ≡ naming.is_other shown w }
 {
@@ -142,9 +143,10 @@ fn all_fields(l: Line, offset: u32, w: u32) -> Said
 {
     let f = names::register_at(offset);
     let rows = names::rows_of(Group::Fields(f.row));
+    let first = rows.first as usize;
     let mut said = Said { line: l, rest: w };
-    for k in 0..rows.count {
-        said = with_row(said, rows.first as usize + k as usize, w);
+    for row in first..first + rows.count as usize {
+        said = with_row(said, row, w);
     }
     said
 }
@@ -174,7 +176,7 @@ fn number(l: Line, w: u32) -> Line
     l.byte(b' ').hex(w, 8)
 }
 
-// What is written: number and fields, or the fields where they say all of it, or the number.
+// What is written: number and fields (`full`), or the fields where they say all of it, or the number.
 fn written(l: Line, offset: u32, w: u32, full: bool) -> Line
     ensures { result ≡ lines.put_all l (steps.written_text offset w full) }
 {

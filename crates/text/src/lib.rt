@@ -8,6 +8,9 @@ ghost use Rattle.text.specs.Numbers as numbers;
 
 const ROOM: usize = 512;
 
+// There is no heap, so the bytes lie in the line with their number beside them, and numbers are put here and not by `write!`, of which
+// no contract says what it writes. No invariant bounds the number and no view hides the bytes behind it: `copied` answers at any number,
+// and `empty` says all bytes. That a line extends another is a fact about two lines, which no type of one can say.
 #[derive(Clone, Copy)]
 pub struct Line {
     pub bytes: [u8; ROOM],
@@ -100,9 +103,8 @@ impl Line {
     pub fn right(self, n: u64, width: usize) -> Self
         ensures { lines.Extends self result }
     {
-        let mut digits = [0u8; 20];
-        let k = io::decimal(n, &mut digits);
-        self.spaces(width.saturating_sub(k)).put(&digits[..k])
+        let digits = n.checked_ilog10().unwrap_or(0) as usize + 1;
+        self.spaces(width.saturating_sub(digits)).decimal(n)
     }
 
     // The lowest k hex digits of a word.

@@ -28,7 +28,7 @@ fn with_fifo(l: Line, fifo: Fifo, word: u32) -> Line {
     line
 }
 
-// EWGF, EPVF and BOFF.
+// EWGF, EPVF and BOFF, as bits of ESR (account::view_of).
 fn errors(flags: u32) -> &'static [u8] {
     match flags {
         0 => b"error active",
@@ -39,7 +39,7 @@ fn errors(flags: u32) -> &'static [u8] {
     }
 }
 
-// ERRI, WKUI and SLAKI.
+// ERRI, WKUI and SLAKI, as bits of MSR.
 fn with_flags(l: Line, flags: u32) -> Line {
     let mut line = l.put(b"flags");
     if flags == 0 {

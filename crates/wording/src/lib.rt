@@ -17,6 +17,9 @@ const ANSWER_COLUMN: usize = 61;
 
 const LINES_COLUMN: usize = 103;
 
+// Each function that gives a whole line says by a clause that it ends in a newline: the clause names the line before it, and an
+// invariant could only say that there is one.
+
 // The heads of the columns, and the state before the first record.
 pub fn head() -> Line
     ensures { lines.EndsLine result }
@@ -82,7 +85,7 @@ fn refused_by(l: Line, code: u8) -> Line
     l.put(b"refused ").decimal(u64::from(code)).put(b": ")
 }
 
-// The code and the reason.
+// The code, which is the number in the step's answer (model::Stepped), and the reason.
 #[tactic(auto, using(text::proofs::Extending::extends_trans))]
 pub fn refused(l: Line, code: u8, reason: Option<Reason>) -> Line
     ensures { lines.Extends l result }
@@ -108,7 +111,7 @@ fn lines(l: Line, up: u8) -> Line {
     lines_up(l.column(LINES_COLUMN - 1), up, b" -")
 }
 
-// How an own frame ended.
+// How an own frame ended, by the number of the step, which may be any byte (model::Step).
 fn outcome(number: u8) -> &'static [u8] {
     match number {
         0 => b"-",
@@ -219,9 +222,9 @@ pub fn unopened_line(up: u8) -> Line
 pub fn unopened_complaint(program: &[u8], row: &[u8]) -> Line
     ensures { lines.EndsLine result }
 {
-    let what: &[u8] = match row.len() {
-        0 => b"it is empty",
-        1 | 2 => b"it ends after",
+    let what: &[u8] = match row {
+        [] => b"it is empty",
+        [_] | [_, _] => b"it ends after",
         _ => b"it begins with",
     };
     let a = Line::empty().put(program);

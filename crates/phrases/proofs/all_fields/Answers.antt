@@ -1,17 +1,21 @@
-use mathlib.Core.Path.{◌∙◌, ap}
+use Rattle.std.proofs.Common.{◌≡◌, ◌+◌, ◌-◌, ◌∙◌, ap, arith}
 use Rattle.names.specs.declared.Span.{Span}
 use Rattle.phrases.specs.Names.{fields_of, with_fields, said_of}
+use Rattle.phrases.specs.declared.Said.{Said}
 use Rattle.phrases.proofs.Putting.{fields_on_lem, fields-ended, all_said}
 use Rattle.phrases.proofs.all_fields.Goals as goal
 
-pub loop-k-preserved : goal.loop-k-preserved
-loop-k-preserved c =
+pub loop-row-preserved : goal.loop-row-preserved
+loop-row-preserved c =
     let x = c.rows_of-rows.result in
-    fields_on_lem c.loop-k.said _ _ x.first c.loop-k.k x.count _ c.loop-k-test.true c.with_row-said.ensures c.loop-k.invariant
+    fields_on_lem c.loop-row.said _ _ c.loop-row.row (x.first + x.count) _ c.loop-row-test.true c.with_row-said.ensures c.loop-row.invariant
 
 pub returns : goal.returns
 unfolding said_of fields_of
 returns c =
     let x = c.rows_of-rows.result in
+    let s : Said = record { line = c.args.l; rest = c.args.w } in
+    let n : x.first + x.count - x.first ≡ x.count = omega arith in
     let e = rw c.register_at-f.ensures at c.rows_of-rows.ensures in
-    fields-ended c.loop-k.said _ _ x.first c.loop-k.k x.count c.loop-k-test.false c.loop-k.invariant ∙ (ap (λ (y : Span). with_fields (record { line = c.args.l; rest = c.args.w }) (fields_of y) c.args.w) e ∙ all_said _ _ _)
+    fields-ended c.loop-row.said _ _ c.loop-row.row (x.first + x.count) c.loop-row-test.false (rw n at c.loop-row.invariant)
+    ∙ (ap (λ (y : Span). with_fields s (fields_of y) c.args.w) e ∙ all_said _ _ _)
