@@ -32,9 +32,9 @@ pick_same : {A : Type 0} (b : Bool) (x : A) → pick b x x ≡ x
 pick_same true x = refl
 pick_same false x = refl
 
-pub settled-stays : (k : Control) (free off a b : Bool) → a ≡ inrq k → b ≡ sleep k → beq a b ≡ true → k ≡ settled k free off
+pub settled_stays : (k : Control) (free off a b : Bool) → a ≡ inrq k → b ≡ sleep k → beq a b ≡ true → k ≡ settled k free off
 unfolding settled
-settled-stays k free off a b p q h = simp (← p, ← q, mode-stays k.mode a b h, entered-stays k off, pick_same)
+settled_stays k free off a b p q h = simp (← p, ← q, mode-stays k.mode a b h, entered-stays k off, pick_same)
 
 pub two_or_more_lem : (w : ℕ) → bit 1 w ≡ true → 2 ≤ w
 two_or_more_lem w h = omega (arith, eqb-true (w / 2 ^ 1 % 2) 1 h)

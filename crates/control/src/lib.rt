@@ -5,7 +5,7 @@
 ghost use Rattle.std.specs.Prelude.{◌≡◌, ◌&&◌, ◌||◌, nat_le, nat_lt};
 ghost use Rattle.model.specs.Control as control;
 
-use bits::{bit, one, pick};
+use bits::{bit, pick};
 use model::{Control, Errors, Mode};
 
 // ---- bits by name
@@ -73,31 +73,19 @@ pub fn silm(k: Control) -> bool
 pub fn is_sleep(m: Mode) -> bool
     ensures { result ≡ control.is_sleep m }
 {
-    match m {
-        Mode::Sleep => true,
-        Mode::Initialization => false,
-        Mode::Normal => false,
-    }
+    m == Mode::Sleep
 }
 
 pub fn is_initialization(m: Mode) -> bool
     ensures { result ≡ control.is_initialization m }
 {
-    match m {
-        Mode::Sleep => false,
-        Mode::Initialization => true,
-        Mode::Normal => false,
-    }
+    m == Mode::Initialization
 }
 
 pub fn is_normal(m: Mode) -> bool
     ensures { result ≡ control.is_normal m }
 {
-    match m {
-        Mode::Sleep => false,
-        Mode::Initialization => false,
-        Mode::Normal => true,
-    }
+    m == Mode::Normal
 }
 
 // INAK and SLAK.
@@ -156,31 +144,14 @@ pub fn same_errors(e: Errors) -> Errors
 
 // ---- modes
 
+#[tactic(auto, unfolding(model::specs::Control::mode_next))]
 pub fn mode_next(m: Mode, init: bool, slp: bool) -> Mode
     ensures { result ≡ control.mode_next m init slp }
 {
     match m {
-        Mode::Normal => {
-            if init & !slp {
-                return Mode::Initialization;
-            }
-            if slp & !init {
-                return Mode::Sleep;
-            }
-            Mode::Normal
-        }
-        Mode::Initialization => {
-            if slp & !init {
-                return Mode::Sleep;
-            }
-            Mode::Initialization
-        }
-        Mode::Sleep => {
-            if init & !slp {
-                return Mode::Initialization;
-            }
-            Mode::Sleep
-        }
+        Mode::Normal | Mode::Sleep if init && !slp => Mode::Initialization,
+        Mode::Normal | Mode::Initialization if slp && !init => Mode::Sleep,
+        _ => m,
     }
 }
 
@@ -188,13 +159,12 @@ pub fn mode_next(m: Mode, init: bool, slp: bool) -> Mode
 pub fn same_control(k: Control) -> Control
     ensures { result ≡ k }
 {
-    let mode = k.mode;
     Control {
         mcr: k.mcr,
         ier: k.ier,
         btr: k.btr,
         timer: k.timer,
-        mode: mode,
+        mode: k.mode,
         recovery: k.recovery,
         reinitialized: k.reinitialized,
         erri: k.erri,
@@ -203,32 +173,27 @@ pub fn same_control(k: Control) -> Control
     }
 }
 
+#[tactic(auto, unfolding(model::specs::Control::entered))]
 pub fn entered(k: Control, m: Mode, off: bool) -> Control
     ensures { result ≡ control.entered k m off }
 {
-    let old = k.mode;
-    let slept = is_sleep(old);
-    let begins = is_initialization(m) & !is_initialization(old);
-    let slaki = pick(
-        is_sleep(m),
-        k.slaki | (!slept & bit(17, k.ier)),
-        k.slaki & !slept,
-    );
+    let slept = k.mode == Mode::Sleep;
+    let begins = (m == Mode::Initialization) & (k.mode != Mode::Initialization);
     Control {
-        mcr: k.mcr,
-        ier: k.ier,
-        btr: k.btr,
-        timer: k.timer,
         mode: m,
         recovery: pick(begins, 0, k.recovery),
         reinitialized: k.reinitialized | (begins & off),
-        erri: k.erri,
-        wkui: k.wkui,
-        slaki: slaki,
+        slaki: pick(
+            m == Mode::Sleep,
+            k.slaki | (!slept & bit(17, k.ier)),
+            k.slaki & !slept,
+        ),
+        ..same_control(k)
     }
 }
 
 // Every step ends here, most of them with INRQ and SLEEP equal: then nothing else is looked at.
+#[tactic(auto, using(crate::proofs::Settling::settled_stays), unfolding(model::specs::Control::settled))]
 pub fn settled(k: Control, free: bool, off: bool) -> Control
     ensures { result ≡ control.settled k free off }
 {
@@ -238,14 +203,14 @@ pub fn settled(k: Control, free: bool, off: bool) -> Control
         return same_control(k);
     }
     if free {
-        let m = k.mode;
-        return entered(k, mode_next(m, init, slp), off);
+        return entered(k, mode_next(k.mode, init, slp), off);
     }
     same_control(k)
 }
 
 // ---- hardware reset and master reset
 
+#[tactic(auto, unfolding(model::specs::Control::control_reset))]
 pub fn control_reset() -> Control
     ensures { result ≡ control.control_reset }
 {
@@ -263,136 +228,140 @@ pub fn control_reset() -> Control
     }
 }
 
+#[tactic(auto, unfolding(model::specs::Control::master_reset, model::specs::Control::control_reset))]
 pub fn master_reset(k: Control) -> Control
     ensures { result ≡ control.master_reset k }
 {
     Control {
-        mcr: 0x00010002,
         ier: k.ier,
         btr: k.btr,
-        timer: 0,
-        mode: Mode::Sleep,
-        recovery: 0,
         reinitialized: k.reinitialized,
-        erri: false,
-        wkui: false,
-        slaki: false,
+        ..control_reset()
     }
 }
 
 // ---- register writes
 
+#[tactic(auto, unfolding(model::specs::Control::mcr_written))]
 pub fn mcr_written(k: Control, w: u32) -> Control
     ensures { result ≡ control.mcr_written k w }
 {
-    let mut d = k;
-    d.mcr = w / 0x10000 % 2 * 0x10000 + w % 256;
-    d.timer = pick(bit(7, w), k.timer, 0);
-    same_control(d)
+    Control {
+        mcr: w / 0x10000 % 2 * 0x10000 + w % 256,
+        timer: pick(bit(7, w), k.timer, 0),
+        ..same_control(k)
+    }
 }
 
+#[tactic(auto, unfolding(model::specs::Control::msr_written))]
 pub fn msr_written(k: Control, w: u32) -> Control
     ensures { result ≡ control.msr_written k w }
 {
-    let mut d = k;
-    d.erri = k.erri & !bit(2, w);
-    d.wkui = k.wkui & !bit(3, w);
-    d.slaki = k.slaki & !bit(4, w);
-    same_control(d)
+    Control {
+        erri: k.erri & !bit(2, w),
+        wkui: k.wkui & !bit(3, w),
+        slaki: k.slaki & !bit(4, w),
+        ..same_control(k)
+    }
 }
 
+#[tactic(auto, unfolding(model::specs::Control::ier_written))]
 pub fn ier_written(k: Control, w: u32) -> Control
     ensures { result ≡ control.ier_written k w }
 {
-    let mut d = k;
-    d.ier = w / 0x8000 % 8 * 0x8000 + w / 256 % 16 * 256 + w % 128;
-    same_control(d)
+    Control {
+        ier: w / 0x8000 % 8 * 0x8000 + w / 256 % 16 * 256 + w % 128,
+        ..same_control(k)
+    }
 }
 
+#[tactic(auto, unfolding(model::specs::Control::btr_written))]
 pub fn btr_written(k: Control, w: u32) -> Control
     ensures { result ≡ control.btr_written k w }
 {
-    let mut d = k;
-    d.btr = w / 0x40000000 % 4 * 0x40000000
-        + w / 0x1000000 % 4 * 0x1000000
-        + w / 0x10000 % 128 * 0x10000
-        + w % 1024;
-    same_control(d)
+    Control {
+        btr: w / 0x40000000 % 4 * 0x40000000
+            + w / 0x1000000 % 4 * 0x1000000
+            + w / 0x10000 % 128 * 0x10000
+            + w % 1024,
+        ..same_control(k)
+    }
 }
 
+#[tactic(auto, unfolding(model::specs::Control::esr_written))]
 pub fn esr_written(e: Errors, w: u32) -> Errors
     ensures { result ≡ control.esr_written e w }
 {
     Errors {
-        tec: e.tec,
-        rec: e.rec,
         lec: pick(w / 16 % 8 == 7, 7, e.lec),
+        ..same_errors(e)
     }
 }
 
 // ---- register reads
 
+#[tactic(auto, using(base::proofs::Flags::from_bool_one, base::proofs::Flags::one_small), unfolding(model::specs::Control::msr_word))]
 pub fn msr_word(k: Control, free: bool) -> u32
     ensures { result ≡ control.msr_word k free }
 {
-    let m = k.mode;
-    (mode_bits(m) as u32)
-        + one(k.erri) * 4
-        + one(k.wkui) * 8
-        + one(k.slaki) * 16
-        + one(!free) * 256
+    u32::from(mode_bits(k.mode))
+        + u32::from(k.erri) * 4
+        + u32::from(k.wkui) * 8
+        + u32::from(k.slaki) * 16
+        + u32::from(!free) * 256
         + 0xC00
 }
 
+#[tactic(auto, using(base::proofs::Flags::from_bool_one, base::proofs::Flags::one_small), unfolding(model::specs::Control::esr_word))]
 pub fn esr_word(e: Errors) -> u32
     ensures { result ≡ control.esr_word e }
 {
-    one(is_warning(e.tec, e.rec))
-        + one(is_passive(e.tec, e.rec)) * 2
-        + one(is_off(e.tec)) * 4
-        + (e.lec as u32) * 16
-        + (e.tec as u32) % 256 * 0x10000
-        + (e.rec as u32) * 0x1000000
+    u32::from(is_warning(e.tec, e.rec))
+        + u32::from(is_passive(e.tec, e.rec)) * 2
+        + u32::from(is_off(e.tec)) * 4
+        + u32::from(e.lec) * 16
+        + u32::from(e.tec) % 256 * 0x10000
+        + u32::from(e.rec) * 0x1000000
 }
 
 // ---- bus events
 
 // In bus-off (`off`) an idle counts towards recovery.
 fn counts(k: Control, off: bool) -> bool
-    ensures { result ≡ off && (control.is_normal k.mode && (control.abom k || k.reinitialized)) }
+    ensures { result ≡ off && control.is_normal k.mode && (control.abom k || k.reinitialized) }
 {
-    let m = k.mode;
-    off & (is_normal(m) & (abom(k) | k.reinitialized))
+    off & (k.mode == Mode::Normal) & (abom(k) | k.reinitialized)
 }
 
+#[tactic(auto, unfolding(model::specs::Control::recovers, model::specs::Control::idle_counts, model::specs::Control::counted))]
 pub fn counted(k: Control, e: Errors) -> Control
     ensures { result ≡ control.counted k e }
 {
     let one_more = counts(k, is_off(e.tec));
     let over = one_more & (127 <= k.recovery);
-    let more = std::num::wrapping_add_u8(k.recovery, 1);
-    let mut d = k;
-    d.recovery = pick(over, 0, pick(one_more, more, k.recovery));
-    d.reinitialized = k.reinitialized & !over;
-    same_control(d)
+    let more = k.recovery.wrapping_add(1);
+    Control {
+        recovery: pick(over, 0, pick(one_more, more, k.recovery)),
+        reinitialized: k.reinitialized & !over,
+        ..same_control(k)
+    }
 }
 
+#[tactic(auto, unfolding(model::specs::Control::idle_mode))]
 pub fn idle_mode(m: Mode, mcr: u32) -> Mode
     ensures { result ≡ control.idle_mode m mcr }
 {
-    if mcr % 4 == 0 {
-        return Mode::Normal;
-    }
-    m
+    if mcr % 4 == 0 { Mode::Normal } else { m }
 }
 
+#[tactic(auto, unfolding(model::specs::Control::idled))]
 pub fn idled(k: Control, e: Errors) -> Control
     ensures { result ≡ control.idled k e }
 {
-    let m = k.mode;
-    entered(counted(k, e), idle_mode(m, k.mcr), is_off(e.tec))
+    entered(counted(k, e), idle_mode(k.mode, k.mcr), is_off(e.tec))
 }
 
+#[tactic(auto, unfolding(model::specs::Control::recovers, model::specs::Control::idle_counts, model::specs::Control::idle_errors))]
 pub fn idle_errors(k: Control, e: Errors) -> Errors
     ensures { result ≡ control.idle_errors k e }
 {
@@ -405,102 +374,77 @@ pub fn idle_errors(k: Control, e: Errors) -> Errors
 }
 
 // The timer runs on from 65535 to 0.
+#[tactic(auto, unfolding(model::specs::Control::ticked))]
 pub fn ticked(k: Control, n: u16) -> Control
     ensures { result ≡ control.ticked k n }
 {
-    let m = k.mode;
-    let later = std::num::wrapping_add_u16(k.timer, n);
-    let mut d = k;
-    d.timer = pick(is_normal(m) & ttcm(k), later, k.timer);
-    same_control(d)
+    let runs = (k.mode == Mode::Normal) & ttcm(k);
+    Control {
+        timer: pick(runs, k.timer.wrapping_add(n), k.timer),
+        ..same_control(k)
+    }
 }
 
 fn sleep_cleared(mcr: u32) -> u32
     ensures { result ≡ control.sleep_cleared mcr }
 {
-    if bit(1, mcr) {
-        return mcr - 2;
-    }
-    mcr
+    if bit(1, mcr) { mcr - 2 } else { mcr }
 }
 
+#[tactic(auto, unfolding(model::specs::Control::woken))]
 pub fn woken(k: Control) -> Control
     ensures { result ≡ control.woken k }
 {
-    let mut d = k;
-    d.mcr = pick(awum(k), sleep_cleared(k.mcr), k.mcr);
-    d.wkui = true;
-    same_control(d)
-}
-
-fn less_one_u8(n: u8) -> u8
-    ensures { result ≡ control.less_one n }
-{
-    if n == 0 {
-        return 0;
+    Control {
+        mcr: pick(awum(k), sleep_cleared(k.mcr), k.mcr),
+        wkui: true,
+        ..same_control(k)
     }
-    n - 1
 }
 
-fn less_one_u16(n: u16) -> u16
-    ensures { result ≡ control.less_one n }
-{
-    if n == 0 {
-        return 0;
-    }
-    n - 1
-}
-
+#[tactic(auto, unfolding(model::specs::Control::outcome_errors))]
 pub fn outcome_errors(e: Errors, r: u8) -> Errors
     ensures { result ≡ control.outcome_errors e r }
 {
-    if r == 0 {
-        return Errors {
-            tec: less_one_u16(e.tec),
+    match r {
+        0 => Errors {
+            tec: e.tec.saturating_sub(1),
             rec: e.rec,
             lec: 0,
-        };
-    }
-    if r == 7 {
-        return Errors {
-            tec: e.tec,
-            rec: e.rec,
-            lec: e.lec,
-        };
-    }
-    if r == 8 {
-        return Errors {
+        },
+        7 => same_errors(e),
+        8 => Errors {
             tec: e.tec,
             rec: e.rec,
             lec: 3,
-        };
-    }
-    Errors {
-        tec: std::num::wrapping_add_u16(e.tec, 8),
-        rec: e.rec,
-        lec: r,
+        },
+        _ => Errors {
+            tec: e.tec.wrapping_add(8),
+            rec: e.rec,
+            lec: r,
+        },
     }
 }
 
+#[tactic(auto, unfolding(model::specs::Control::received_errors))]
 pub fn received_errors(e: Errors) -> Errors
     ensures { result ≡ control.received_errors e }
 {
     Errors {
         tec: e.tec,
-        rec: pick(128 < e.rec, 120, less_one_u8(e.rec)),
+        rec: pick(128 < e.rec, 120, e.rec.saturating_sub(1)),
         lec: 0,
     }
 }
 
+#[tactic(auto, unfolding(model::specs::Control::rec_plus))]
 pub fn rec_plus(x: u8, n: u8) -> u8
     ensures { result ≡ control.rec_plus x n }
 {
-    if 255 - n < x {
-        return 255;
-    }
-    x + n
+    x.saturating_add(n)
 }
 
+#[tactic(auto, unfolding(model::specs::Control::receive_error_counters))]
 pub fn receive_error_counters(e: Errors, k: u8, n: u8) -> Errors
     ensures { result ≡ control.receive_error_counters e k n }
 {
@@ -511,26 +455,19 @@ pub fn receive_error_counters(e: Errors, k: u8, n: u8) -> Errors
     }
 }
 
+#[tactic(auto, unfolding(model::specs::Control::errors_changed))]
 pub fn errors_changed(k: Control, e: Errors, d: Errors, coded: bool) -> Control
     ensures { result ≡ control.errors_changed k e d coded }
 {
-    let mode = k.mode;
     let off = is_off(d.tec);
-    let erri = k.erri
-        | (bit(8, k.ier) & is_warning(d.tec, d.rec) & !is_warning(e.tec, e.rec))
-        | (bit(9, k.ier) & is_passive(d.tec, d.rec) & !is_passive(e.tec, e.rec))
-        | (bit(10, k.ier) & off & !is_off(e.tec))
-        | (bit(11, k.ier) & coded);
     Control {
-        mcr: k.mcr,
-        ier: k.ier,
-        btr: k.btr,
-        timer: k.timer,
-        mode: mode,
         recovery: pick(off, 0, k.recovery),
         reinitialized: k.reinitialized & !off,
-        erri: erri,
-        wkui: k.wkui,
-        slaki: k.slaki,
+        erri: k.erri
+            | (bit(8, k.ier) & is_warning(d.tec, d.rec) & !is_warning(e.tec, e.rec))
+            | (bit(9, k.ier) & is_passive(d.tec, d.rec) & !is_passive(e.tec, e.rec))
+            | (bit(10, k.ier) & off & !is_off(e.tec))
+            | (bit(11, k.ier) & coded),
+        ..same_control(k)
     }
 }
