@@ -10,7 +10,7 @@ use Rattle.lesson_promises.specs.Reading.{Lines}
 use Rattle.lesson_promises.proofs.ToldNames.{lookups}
 
 pub lines-read : Lines
-unfolding lookups numbers.numeral_of numbers.numeral numbers.by_name parts.with_values parts.with_bits parts.field parts.words_on parts.all_words meanings.alone meanings.last frames.pairs frames.finished frames.behind_identifier frames.frame_line expectations.with_lines expectations.lines_behind expectations.expect_line lines.number_line lines.write_line lines.bytes_on lines.bytes_line lines.line_of lines.meaning_of
+unfolding lookups numbers.sense_of numbers.numeral numbers.named_sense numbers.by_name parts.with_bits parts.amount_of parts.field parts.words_on parts.all_words meanings.alone frames.pairs frames.finished frames.remote frames.with_data frames.behind_identifier frames.frame_line expectations.with_lines expectations.lines_behind expectations.refused expectations.expect_line lines.number_line lines.written lines.write_line lines.bytes_on lines.bytes_line lines.line_of lines.meaning_of
 lines-read = record {
   empty = refl;
   comment = refl;

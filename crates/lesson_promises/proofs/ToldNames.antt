@@ -8,7 +8,7 @@ use Rattle.lesson_promises.specs.Told.{looked_up, all_of, is_layout, FieldNames,
 
 -- what a lookup unfolds to
 unfoldable pub lookups : Unit {0}
-unfolding byte_at digit_of is_of run_on run_end word_at with_digit value_on value bytes row general fields row_of text rowed.numbers rowed.same_on rowed.is_named rowed.find_on rowed.indexed rowed.index_at rowed.register_on tables.rows_of tables.named tables.register_at tables.number tables.place looked_up all_of
+unfolding byte_at digit_of is_of run_on run_end word_at with_digit value_on value bytes row general fields row_of text rowed.numbers rowed.same_on rowed.is_named rowed.find_on rowed.indexed rowed.index_at rowed.register_on tables.rows_of tables.named tables.register_at tables.place looked_up all_of
 lookups = tt
 
 pub field-names : FieldNames

@@ -1,26 +1,25 @@
 -- The registers of the table are the model's. The numbers of the 23 rows are computed once; below 0x300 every offset is tried, and
 -- from there on no row and no register of the model reaches.
 use mathlib.Core.Bool.{Bool, true, false, not, ◌&&◌, ◌||◌, true≢false, false≢true}
-use mathlib.Core.Path.{◌≡◌, refl}
+use mathlib.Core.Path.{◌≡◌, refl, sym, ap, ◌∙◌}
 use mathlib.Core.List.{List, [], ◌∷◌}
-use Prim.Native.Nat.{ℕ, zero, suc, ◌+◌, ◌-◌, ◌*◌, ◌%◌, ◌<◌, ◌≤◌}
+use Rattle.std.specs.Prelude.{Option, Some, None, is_some, is_none}
+use Prim.Native.Nat.{ℕ, zero, suc, ◌+◌, ◌-◌, ◌*◌, ◌/◌, ◌%◌, ◌<◌, ◌≤◌}
 use native.Mathlib.Nat.{le-div_iff_mul-le}
 use native.Mathlib.Omega.{arith}
 use lib.Dec.{eqb, ltb, leb}
 use lib.ListN.{get_or}
 use borrow.Author.Tests.{eqb-true, ltb-true, ltb-false, leb-true, le-ltb, le-leb, ne_eqb}
-use Rattle.base.specs.Base.{pick}
 use Rattle.model.specs.Registers as model
 use Rattle.model.specs.Registers.{is_absent, control_register, mailbox_register, output_register, block_register, bank_register, filter_register}
 use Rattle.model.specs.declared.Register.TheVariants.{Absent}
-use Rattle.base.proofs.Choices.{Is, and_l, and_r, pick_cases}
+use Rattle.base.proofs.Choices.{Is, and_l, and_r, or_r, pick_cases}
 use Rattle.model.proofs.Bounded.{all_below, each_below}
-use Rattle.names.specs.Rows.{nowhere, index_in, index_at, register_on}
-use Rattle.names.specs.Table.{number, place, register_at}
+use Rattle.names.specs.Rows.{found, numbers, index_in, index_at, or_behind, register_on}
+use Rattle.names.specs.Table.{place, register_at}
 use Rattle.lesson_promises.specs.Told.{looked_up, register_name, RegisterNames}
 use Rattle.names.specs.declared.rows.Found.{Found}
-use Rattle.names.specs.declared.rows.Column.{Column}
-use Rattle.names.specs.declared.rows.Column.TheVariants.{Place, Size, Count}
+use Rattle.names.specs.declared.rows.Numbers.{Numbers}
 use Rattle.names.specs.declared.Group.TheVariants.{Registers}
 use Rattle.lesson_promises.proofs.ToldNames.{lookups}
 
@@ -44,21 +43,21 @@ size' k = get_or sizes k 0
 abbrev count' : ℕ → ℕ
 count' k = get_or counts k 0
 
-all_known : (c : Column) (l : List ℕ) → Is (all_below (λ (k : ℕ). eqb (number (k + 30) c) (get_or l k 0)) 23)
-    → (k : ℕ) → k < 23 → number (k + 30) c ≡ get_or l k 0
-all_known c l t k h = eqb-true (number (k + 30) c) (get_or l k 0) (each_below (λ (k : ℕ). eqb (number (k + 30) c) (get_or l k 0)) 23 t k h)
+all_known : (f : Numbers → ℕ) (l : List ℕ) → Is (all_below (λ (k : ℕ). eqb (f (numbers (k + 30))) (get_or l k 0)) 23)
+    → (k : ℕ) → k < 23 → f (numbers (k + 30)) ≡ get_or l k 0
+all_known f l t k h = eqb-true (f (numbers (k + 30))) (get_or l k 0) (each_below (λ (k : ℕ). eqb (f (numbers (k + 30))) (get_or l k 0)) 23 t k h)
 
-known-place : (k : ℕ) → k < 23 → number (k + 30) Place ≡ place' k
+known-place : (k : ℕ) → k < 23 → (numbers (k + 30)).place ≡ place' k
 unfolding lookups all_below
-known-place = all_known Place places refl
+known-place = all_known (λ (n : Numbers). n.place) places refl
 
-known-size : (k : ℕ) → k < 23 → number (k + 30) Size ≡ size' k
+known-size : (k : ℕ) → k < 23 → (numbers (k + 30)).size ≡ size' k
 unfolding lookups all_below
-known-size = all_known Size sizes refl
+known-size = all_known (λ (n : Numbers). n.size) sizes refl
 
-known-count : (k : ℕ) → k < 23 → number (k + 30) Count ≡ count' k
+known-count : (k : ℕ) → k < 23 → (numbers (k + 30)).count ≡ count' k
 unfolding lookups all_below
-known-count = all_known Count counts refl
+known-count = all_known (λ (n : Numbers). n.count) counts refl
 
 -- no row reaches 0x300
 abbrev low : ℕ → Bool
@@ -70,15 +69,12 @@ all-low = refl
 
 -- ---- the same walk over these numbers
 
-unfoldable along : ℕ → ℕ → ℕ → Found
-along o k zero = nowhere
-along o k (suc n) =
-    pick (ltb (index_in (place' k) (size' k) (count' k) o) (count' k))
-    (record { row = k + 30; index = index_in (place' k) (size' k) (count' k) o })
-    (along o (k + 1) n)
+unfoldable along : ℕ → ℕ → ℕ → Option Found
+along o k zero = None
+along o k (suc n) = or_behind (k + 30) (index_in (place' k) (size' k) (count' k) o) (along o (k + 1) n)
 
 walked : (o k n : ℕ) → k + n ≤ 23 → register_on o (k + 30) n ≡ along o k n
-unfolding register_on index_at along number
+unfolding register_on index_at along
 walked o k zero h = refl
 walked o k (suc n) h =
     let e : k + 30 + 1 ≡ k + 1 + 30 = omega arith in
@@ -90,19 +86,21 @@ register-along o = walked o 0 23 (omega arith)
 
 -- ---- from 0x300 on
 
-reaches : (p s c o : ℕ) → 0 < s → p + c * s ≤ 0x300 → 0x300 ≤ o → c ≤ index_in p s c o
-reaches p s c o h k l =
-    pick_cases (λ (i : ℕ). c ≤ i) (ltb o p || eqb s 0) _ _ (λ _. omega arith)
-    (λ _. pick_cases (λ (i : ℕ). c ≤ i) (not (eqb ((o - p) % s) 0)) _ _ (λ _. omega arith) (λ _. (le-div_iff_mul-le h).1 (omega arith)))
+beyond : (p s c o : ℕ) → 0 < s → p + c * s ≤ 0x300 → 0x300 ≤ o → index_in p s c o ≡ None
+beyond p s c o h k l =
+    let m : c ≤ (o - p) / s = (le-div_iff_mul-le h).1 (omega arith) in
+    pick_cases (λ (i : Option ℕ). i ≡ None) (ltb o p || eqb s 0) _ _ (λ _. refl)
+    (λ _. pick_cases (λ (i : Option ℕ). i ≡ None) (not (eqb ((o - p) % s) 0) || leb c ((o - p) / s)) _ _ (λ _. refl)
+    (λ n. absurd (true≢false (sym (le-leb c ((o - p) / s) m) ∙ or_r (not (eqb ((o - p) % s) 0)) _ n))))
 
-nothing_above : (o k n : ℕ) → 0x300 ≤ o → k + n ≤ 23 → along o k n ≡ nowhere
+nothing_above : (o k n : ℕ) → 0x300 ≤ o → k + n ≤ 23 → along o k n ≡ None
 unfolding along
 nothing_above o k zero l h = refl
 nothing_above o k (suc n) l h =
     let r = each_below low 23 all-low k (omega arith) in
     let s = ltb-true 0 (size' k) (and_l (ltb 0 (size' k)) _ r) in
     let e = leb-true (place' k + count' k * size' k) 0x300 (and_r (ltb 0 (size' k)) _ r) in
-    rw (le-ltb (index_in (place' k) (size' k) (count' k) o) (count' k) (reaches (place' k) (size' k) (count' k) o s e l)) (nothing_above o (k + 1) n l (omega arith))
+    rw (beyond (place' k) (size' k) (count' k) o s e l) (nothing_above o (k + 1) n l (omega arith))
 
 absent_above : (o : ℕ) → 0x300 ≤ o → model.register_at o ≡ Absent
 unfolding model.register_at filter_register
@@ -111,9 +109,11 @@ absent_above o l = simp (le-ltb o 0x20 (omega arith), le-ltb o 0x200 (omega arit
 -- ---- every offset
 
 -- f is found by the offset o, g by the name of the model's register there, which may be absent
-unfoldable agrees : Bool → Found → Found → ℕ → Bool
-agrees true f g o = eqb f.row 164
-agrees false f g o = ltb f.row 164 && (eqb g.row f.row && (eqb g.index f.index && eqb (place g) o))
+unfoldable agrees : Bool → Option Found → Option Found → ℕ → Bool
+agrees true f g o = is_none f
+agrees false None g o = false
+agrees false (Some f) None o = false
+agrees false (Some f) (Some g) o = eqb g.row f.row && (eqb g.index f.index && eqb (place g) o)
 
 abbrev name_at : ℕ → List ℕ
 name_at o = register_name (model.register_at o)
@@ -136,29 +136,38 @@ agreed o = go (ltb o 0x300) refl
     go true e = rw (register-along o) (each_below agrees_along 0x300 all_below_lem o (ltb-true o 0x300 e))
     go false e = agreed_above o (ltb-false o 0x300 e)
 
-module _ (f g : Found) (o : ℕ) where
-  none_there : (a : Bool) → Is (agrees a f g o) → a ≡ true → f.row ≡ 164
-  unfolding agrees
-  none_there true t e = eqb-true f.row 164 t
-  none_there false t e = absurd (false≢true e)
+none_there : (f g : Option Found) (o : ℕ) (a : Bool) → Is (agrees a f g o) → a ≡ true → f ≡ None
+unfolding agrees
+none_there None g o true t e = refl
+none_there (Some f) g o true t e = absurd (false≢true t)
+none_there f g o false t e = absurd (false≢true e)
 
-  one_there : (a : Bool) → Is (agrees a f g o) → a ≡ false → (f.row < 164) × ((g.row ≡ f.row) × ((g.index ≡ f.index) × (place g ≡ o)))
-  unfolding agrees
-  one_there true t e = absurd (true≢false e)
-  one_there false t e =
-      let r = and_r (ltb f.row 164) (eqb g.row f.row && (eqb g.index f.index && eqb (place g) o)) t in
-      let i = and_r (eqb g.row f.row) (eqb g.index f.index && eqb (place g) o) r in (
-        ltb-true f.row 164 (and_l (ltb f.row 164) _ t),
-        (eqb-true g.row f.row (and_l (eqb g.row f.row) _ r), (eqb-true g.index f.index (and_l (eqb g.index f.index) _ i), eqb-true (place g) o (and_r (eqb g.index f.index) _ i))),
-      )
+same_found : (f g : Found) → g.row ≡ f.row → g.index ≡ f.index → g ≡ f
+same_found f g e i = ap (λ (r : ℕ). found r g.index) e ∙ ap (found f.row) i
+
+record There (f g : Option Found) (o : ℕ) : Type 0 where
+  present : is_some f ≡ true
+  same : g ≡ f
+  offset : (x : Found) → g ≡ Some x → place x ≡ o
+
+one_there : (f g : Option Found) (o : ℕ) (a : Bool) → Is (agrees a f g o) → a ≡ false → There f g o
+unfolding agrees
+one_there f g o true t e = absurd (true≢false e)
+one_there None g o false t e = absurd (false≢true t)
+one_there (Some f) None o false t e = absurd (false≢true t)
+one_there (Some f) (Some g) o false t e =
+    let r = eqb-true g.row f.row (and_l (eqb g.row f.row) _ t) in
+    let u = and_r (eqb g.row f.row) (eqb g.index f.index && eqb (place g) o) t in
+    let i = eqb-true g.index f.index (and_l (eqb g.index f.index) _ u) in
+    let p = eqb-true (place g) o (and_r (eqb g.index f.index) _ u) in
+    record { present = refl; same = ap Some (same_found f g r i); offset = λ x h. let k : g ≡ x = cc in rw (← k) p }
 
 pub register-names : (o : ℕ) → RegisterNames o
 register-names o =
     let there = one_there (register_at o) (looked_up (name_at o) Registers) o (is_absent (model.register_at o)) (agreed o) in
     record {
       absent = none_there (register_at o) (looked_up (name_at o) Registers) o (is_absent (model.register_at o)) (agreed o);
-      present = λ e. (there e).0;
-      row = λ e. (there e).1.0;
-      index = λ e. (there e).1.1.0;
-      offset = λ e. (there e).1.1.1;
+      present = λ e. (there e).present;
+      same = λ e. (there e).same;
+      offset = λ x e. (there e).offset x;
     }

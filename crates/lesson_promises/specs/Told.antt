@@ -1,6 +1,6 @@
 -- What is promised of the names: they are the manual's. Its registers stand at the offsets of the model's map; the fields of a
 -- register are the bits that the manual does not reserve; each field stands at its bit with its width; digits are read as numbers.
-use Rattle.std.specs.Prelude.{Bool, true, false, not, ◌&&◌, ◌≡◌, List, [], ◌∷◌, ◌++◌, ℕ, zero, suc, ◌+◌, ◌-◌, ◌*◌, ◌/◌, ◌%◌, ◌^◌, ◌<◌, eqb, ltb, length}
+use Rattle.std.specs.Prelude.{Bool, true, false, not, ◌&&◌, ◌≡◌, List, [], ◌∷◌, ◌++◌, ℕ, zero, suc, ◌+◌, ◌-◌, ◌*◌, ◌/◌, ◌%◌, ◌^◌, ◌<◌, eqb, ltb, length, Option, Some, None, is_some, is_none}
 use Prim.Native.String.{String}
 use Rattle.base.specs.Base.{pick}
 use Rattle.model.specs.Registers as model
@@ -12,16 +12,15 @@ use Rattle.model.specs.declared.Fifo.TheVariants.{F0, F1}
 use Rattle.model.specs.declared.Register.{Register}
 use Rattle.model.specs.declared.Register.TheVariants.{Mcr, Msr, Tsr, Rfr, Ier, Esr, Btr, Ti, Tdt, Tdl, Tdh, Ri, Rdt, Rdl, Rdh, Fmr, Fm1r, Fs1r, Ffa1r, Fa1r, R1, R2, Absent}
 use Rattle.names.specs.Scan.{word_at, value}
-use Rattle.names.specs.Rows.{none}
-use Rattle.names.specs.Table.{bytes, named, register_at, rows_of, number, place}
+use Rattle.names.specs.Rows.{numbers}
+use Rattle.names.specs.Table.{bytes, named, register_at, rows_of, place}
 use Rattle.names.specs.declared.rows.Found.{Found}
-use Rattle.names.specs.declared.rows.Column.TheVariants.{Place, Size, Count, Shown}
 use Rattle.names.specs.declared.Span.{Span}
 use Rattle.names.specs.declared.Group.{Group}
 use Rattle.names.specs.declared.Group.TheVariants.{Registers, Fields, Steps, Results, Lines, Expectations}
 
 -- a text that is one word, looked up in a group
-unfoldable pub looked_up : List ℕ → Group → Found
+unfoldable pub looked_up : List ℕ → Group → Option Found
 looked_up s g = named s (word_at s 0) g
 
 unfoldable pub all_of : {A : Type 0} → (A → Bool) → List A → Bool
@@ -72,17 +71,16 @@ register_name Absent = []
 -- at every offset: a row is found exactly where the model has a register, and the register's name finds the same row, with this
 -- offset
 pub record RegisterNames (o : ℕ) : Type 0 where
-  pub absent : is_absent (model.register_at o) ≡ true → (register_at o).row ≡ none
-  pub present : is_absent (model.register_at o) ≡ false → (register_at o).row < none
-  pub row : is_absent (model.register_at o) ≡ false → (looked_up (register_name (model.register_at o)) Registers).row ≡ (register_at o).row
-  pub index : is_absent (model.register_at o) ≡ false → (looked_up (register_name (model.register_at o)) Registers).index ≡ (register_at o).index
-  pub offset : is_absent (model.register_at o) ≡ false → place (looked_up (register_name (model.register_at o)) Registers) ≡ o
+  pub absent : is_absent (model.register_at o) ≡ true → register_at o ≡ None
+  pub present : is_absent (model.register_at o) ≡ false → is_some (register_at o) ≡ true
+  pub same : is_absent (model.register_at o) ≡ false → looked_up (register_name (model.register_at o)) Registers ≡ register_at o
+  pub offset : (f : Found) → is_absent (model.register_at o) ≡ false → looked_up (register_name (model.register_at o)) Registers ≡ Some f → place f ≡ o
 
 -- ---- the bits of a register
 
--- the row of a register with no number in its name, or of the first of several
-abbrev pub row_of : String → ℕ
-row_of r = (looked_up (bytes r) Registers).row
+-- a register by its name
+abbrev pub register_called : String → Option Found
+register_called r = looked_up (bytes r) Registers
 
 -- no word: two fields have a bit in common
 abbrev pub overlap : ℕ
@@ -96,13 +94,13 @@ besides u p w = pick (ltb u overlap && eqb (u / 2 ^ p % 2 ^ w) 0) (u + (2 ^ w - 
 unfoldable pub bits_on : ℕ → ℕ → ℕ → ℕ → ℕ
 bits_on h row zero u = u
 bits_on h row (suc n) u =
-    bits_on h (row + 1) n (pick (not (eqb (number row Shown) h)) (besides u (number row Place) (number row Size * number row Count)) u)
+    bits_on h (row + 1) n (pick (not (eqb (numbers row).shown h)) (besides u (numbers row).place ((numbers row).size * (numbers row).count)) u)
 
 abbrev pub span_bits : Span → ℕ → ℕ
 span_bits x h = bits_on h x.first x.count 0
 
 unfoldable pub field_bits : String → ℕ → ℕ
-field_bits r h = span_bits (rows_of (Fields (row_of r))) h
+field_bits r h = span_bits (rows_of (Fields (register_called r))) h
 
 -- a register and its bits that are not reserved
 pub record Bits : Type 0 where
@@ -183,14 +181,15 @@ manual =
     layout "FFA1R" (field "FFA13" 13 1 ∷ field "FFA0" 0 1 ∷ []) ∷
     layout "FA1R" (field "FACT13" 13 1 ∷ field "FACT7" 7 1 ∷ field "FACT0" 0 1 ∷ []) ∷ []
 
-abbrev pub is_placed : Found → ℕ → ℕ → Bool
-is_placed f b w = ltb f.row none && eqb (place f) b && eqb (number f.row Size) w
+abbrev pub is_placed : Option Found → ℕ → ℕ → Bool
+is_placed None b w = false
+is_placed (Some f) b w = eqb (place f) b && eqb (numbers f.row).size w
 
-abbrev pub is_field : ℕ → Field → Bool
+abbrev pub is_field : Option Found → Field → Bool
 is_field r x = is_placed (looked_up (bytes x.name) (Fields r)) x.bit x.width
 
 unfoldable pub is_layout : Layout → Bool
-is_layout x = all_of (is_field (row_of x.register)) x.fields
+is_layout x = all_of (is_field (register_called x.register)) x.fields
 
 -- every field stands at its bit and has its width
 pub record FieldNames : Type 0 where
@@ -215,7 +214,7 @@ pub record Words : Type 0 where
   pub expectations : counted Expectations 1 ("refused" ∷ "lines" ∷ []) ≡ true
 
 abbrev pub is_no_name : Group → String → Bool
-is_no_name g x = eqb (looked_up (bytes x) g).row none
+is_no_name g x = is_none (looked_up (bytes x) g)
 
 -- no names: a number too large, with a zero in front or none at all; a letter more or fewer; small letters; another group's name
 abbrev pub no_registers : List String
@@ -232,8 +231,8 @@ no_steps = "activityx" ∷ "activit" ∷ "Reset" ∷ "good" ∷ []
 
 pub record NoNames : Type 0 where
   pub registers : all_of (is_no_name Registers) no_registers ≡ true
-  pub control : all_of (is_no_name (Fields (row_of "MCR"))) no_controls ≡ true
-  pub modes : all_of (is_no_name (Fields (row_of "FM1R"))) no_modes ≡ true
+  pub control : all_of (is_no_name (Fields (register_called "MCR"))) no_controls ≡ true
+  pub modes : all_of (is_no_name (Fields (register_called "FM1R"))) no_modes ≡ true
   pub steps : all_of (is_no_name Steps) no_steps ≡ true
 
 -- ---- numbers
@@ -252,18 +251,18 @@ decimal_digits n =
     digit (n / 10 ^ 9 % 10) ∷ digit (n / 10 ^ 8 % 10) ∷ digit (n / 10 ^ 7 % 10) ∷ digit (n / 10 ^ 6 % 10) ∷ digit (n / 10 ^ 5 % 10) ∷
     digit (n / 10 ^ 4 % 10) ∷ digit (n / 10 ^ 3 % 10) ∷ digit (n / 10 ^ 2 % 10) ∷ digit (n / 10 % 10) ∷ digit (n % 10) ∷ []
 
-abbrev pub value_of : String → Bool → ℕ
+abbrev pub value_of : String → Bool → Option ℕ
 value_of x hex = value (bytes x) 0 (length (bytes x)) hex
 
--- the digits of a number of 32 bits are read as the number; 2^32 is read where the text is none
+-- the digits of a number of 32 bits are read as the number; nothing where the text is none
 pub record Numbers : Type 0 where
-  pub hex_read : (n : ℕ) → n < 2 ^ 32 → value (hex_digits n) 0 8 true ≡ n
-  pub decimal_read : (n : ℕ) → n < 2 ^ 32 → value (decimal_digits n) 0 10 false ≡ n
-  pub largest : value_of "4294967295" false ≡ 4294967295
-  pub too_large : value_of "4294967296" false ≡ 2 ^ 32
-  pub much_too_large : value_of "42949672950" false ≡ 2 ^ 32
-  pub largest_hex : value_of "FFFFffff" true ≡ 0xFFFFFFFF
-  pub too_large_hex : value_of "100000000" true ≡ 2 ^ 32
-  pub letters : value_of "1a" true ≡ 26
-  pub no_letters : value_of "1a" false ≡ 2 ^ 32
-  pub no_digit : value_of "1G2" true ≡ 2 ^ 32
+  pub hex_read : (n : ℕ) → n < 2 ^ 32 → value (hex_digits n) 0 8 true ≡ Some n
+  pub decimal_read : (n : ℕ) → n < 2 ^ 32 → value (decimal_digits n) 0 10 false ≡ Some n
+  pub largest : value_of "4294967295" false ≡ Some 4294967295
+  pub too_large : value_of "4294967296" false ≡ None
+  pub much_too_large : value_of "42949672950" false ≡ None
+  pub largest_hex : value_of "FFFFffff" true ≡ Some 0xFFFFFFFF
+  pub too_large_hex : value_of "100000000" true ≡ None
+  pub letters : value_of "1a" true ≡ Some 26
+  pub no_letters : value_of "1a" false ≡ None
+  pub no_digit : value_of "1G2" true ≡ None

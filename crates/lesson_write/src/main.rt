@@ -6,8 +6,9 @@
 use arrayvec::ArrayVec;
 use command_line::ArgumentsError;
 use expected::Expected;
-use lines::Meaning;
+use lines::{Fault, Meaning};
 use names::scan::{value, word_at};
+use say::Rule;
 use std::env::Env;
 use std::io::{Stderr, Stdin, Stdout};
 use std::ops::ControlFlow;
@@ -73,9 +74,9 @@ fn unhexed(line: &[u8], from: usize) -> ArrayVec<u8, LONGEST_LINE> {
             break;
         }
         let pair = value(line, i, i.wrapping_add(2), true);
-        first = !first && pair < 256;
+        first = !first && pair.is_some();
         if first {
-            let _fits = bytes.try_push((pair % 256) as u8);
+            let _fits = bytes.try_push((pair.unwrap_or(0) % 256) as u8);
         }
     }
     bytes
@@ -163,15 +164,19 @@ impl Session {
 
     // ---- repeats
 
-    fn refuse(&self, line: &[u8], place: usize, rule: u32, n: u64) -> ControlFlow<()> {
-        say::fault(&self.stderr, self.lines, line, place, rule, n);
+    fn refuse(&self, line: &[u8], place: usize, rule: Rule) -> ControlFlow<()> {
+        say::fault(&self.stderr, self.lines, line, place, rule);
         ControlFlow::Break(())
     }
 
     // A line that doesn't go with those before it.
-    fn refuse_misplaced(&self, line: &[u8], rule: u32) -> ControlFlow<()> {
-        let outermost = self.open.first().map_or(0, |r| r.line);
-        self.refuse(line, word_at(line, 0).from, rule, outermost)
+    fn refuse_misplaced(&self, line: &[u8], rule: Rule) -> ControlFlow<()> {
+        self.refuse(line, word_at(line, 0).from, rule)
+    }
+
+    // The line of the outermost repeat that is open.
+    fn outermost(&self) -> u64 {
+        self.open.first().map_or(0, |r| r.line)
     }
 
     fn begin_repeat(&mut self, n: u32, line: &[u8]) -> ControlFlow<()> {
@@ -182,7 +187,7 @@ impl Session {
             left: if once { 1 } else { n },
         };
         if self.open.try_push(repeat).is_err() {
-            return self.refuse_misplaced(line, say::TOO_DEEP);
+            return self.refuse_misplaced(line, Rule::TooDeep);
         }
         if n == 0 && self.silent.is_none() {
             self.silent = Some(self.open.len());
@@ -194,7 +199,7 @@ impl Session {
     fn end_repeat(&mut self, line: &[u8]) -> ControlFlow<()> {
         let depth = self.open.len();
         let Some(mut repeat) = self.open.pop() else {
-            return self.refuse_misplaced(line, say::NO_REPEAT);
+            return self.refuse_misplaced(line, Rule::NoRepeat);
         };
         if 1 < repeat.left {
             repeat.left -= 1;
@@ -209,9 +214,13 @@ impl Session {
 
     // ---- lines
 
-    fn with_meaning(&mut self, m: Meaning, line: &[u8]) -> ControlFlow<()> {
-        match m {
-            Meaning::Nothing => ControlFlow::Continue(()),
+    fn with_meaning(&mut self, m: Result<Option<Meaning>, Fault>, line: &[u8]) -> ControlFlow<()> {
+        let meaning = match m {
+            Ok(None) => return ControlFlow::Continue(()),
+            Ok(Some(meaning)) => meaning,
+            Err(f) => return self.refuse(line, f.place, Rule::Line(f.rule)),
+        };
+        match meaning {
             Meaning::Step(e) => {
                 let mut record = [0; LONGEST_RECORD];
                 let n = writer::write_record(e, &mut record).unwrap_or(0);
@@ -221,7 +230,6 @@ impl Session {
             Meaning::Expect(x) => self.write_expected(x),
             Meaning::Repeat(n) => self.begin_repeat(n, line),
             Meaning::Done => self.end_repeat(line),
-            Meaning::Bad(f) => self.refuse(line, f.place, f.rule, u64::from(f.number)),
         }
     }
 
@@ -233,7 +241,7 @@ impl Session {
         self.lines = self.lines.wrapping_add(1);
         self.with_meaning(lines::meaning_of(line), line)?;
         if !self.open.is_empty() && LONGEST_REPEAT < self.place {
-            self.refuse_misplaced(line, say::TOO_MUCH)?;
+            self.refuse_misplaced(line, Rule::TooMuch(self.outermost()))?;
         }
         ControlFlow::Continue(used)
     }
@@ -242,7 +250,7 @@ impl Session {
     fn end(&mut self) -> ControlFlow<()> {
         if !self.open.is_empty() {
             self.lines = self.lines.wrapping_add(1);
-            return self.refuse_misplaced(b"", say::NOT_DONE);
+            return self.refuse_misplaced(b"", Rule::NotDone(self.outermost()));
         }
         ControlFlow::Break(())
     }
@@ -254,11 +262,11 @@ impl Session {
         }
         let unread = input.unread();
         let rest = &unread[self.place.min(unread.len())..];
-        let n = line_length(rest);
+        let n = line_length(rest).min(rest.len());
         let ended = input.source() != Source::Open;
         if LONGEST_LINE < n {
             self.lines = self.lines.wrapping_add(1);
-            self.refuse(rest, LONGEST_LINE, say::TOO_LONG, 0)
+            self.refuse(rest, LONGEST_LINE, Rule::TooLong)
         } else if n < rest.len() || (ended && 0 < n) {
             let used = self.with_line(&rest[..n])?;
             input.pass(used);
@@ -273,7 +281,7 @@ impl Session {
 
 // ---- the program
 
-fn mode(rt: &impl Env) -> Result<Mode, ArgumentsError> {
+fn asked_mode(rt: &impl Env) -> Result<Mode, ArgumentsError> {
     let mut text = [0; 4096];
     match command_line::argument(rt, &mut text)? {
         None => Ok(Mode::Script),
@@ -287,7 +295,7 @@ fn mode(rt: &impl Env) -> Result<Mode, ArgumentsError> {
 
 // Other arguments are told, and nothing is read.
 fn main(rt: HostRuntime) {
-    let Ok(mode) = mode(&rt) else {
+    let Ok(mode) = asked_mode(&rt) else {
         let _ = eprintln!(rt; "usage: lesson_write [--check | --expects]");
         return;
     };

@@ -1,4 +1,2 @@
-pub mod Identifiers
 pub mod Places
-pub mod Powers
 pub mod Words

@@ -2,81 +2,102 @@
 ghost use Rattle.std.specs.Prelude.{◌≡◌};
 ghost use Rattle.lines.specs.Expectations as expectations;
 
-use super::numbers::{NO_NUMBER, by_name, numeral};
+use super::numbers::{Sense, by_name, numeral};
 use super::parts::{Kind, all_words};
-use super::{
-    Meaning, WANTS_EXPECTATION, WANTS_LINES, WANTS_LINES_OR_END, WANTS_NUMBER, WANTS_REFUSAL,
-    alone, bad,
-};
-use expected::Expected;
+use super::{Fault, Meaning, Rule, alone};
+use expected::{Expected, Response};
 use names::Group;
 
 // Behind the word `lines`.
-fn with_lines(s: &[u8], place: usize, x: Expected) -> Meaning
-    ensures { result ≡ expectations.with_lines s.now place x }
+#[tactic(auto, unfolding(crate::specs::Expectations::with_lines))]
+fn with_lines(s: &[u8], place: usize, response: Option<Response>) -> Result<Meaning, Fault>
+    ensures { result ≡ expectations.with_lines s.now place response }
 {
     let t = by_name(s, place, Group::Lines);
-    if t.name == 4 {
-        return alone(s, t.to, Meaning::Expect(x));
+    if let Sense::Name(4) = t.sense {
+        let none = Expected {
+            response,
+            lines: Some(0),
+        };
+        return alone(s, t.to, Meaning::Expect(none));
     }
-    if t.to <= t.from {
-        return bad(t.from, WANTS_LINES, 0);
+    if t.is_empty() {
+        return Err(Fault {
+            place: t.from,
+            rule: Rule::WantsLines,
+        });
     }
     let k = Kind {
         group: Group::Lines,
         last: 3,
-        rule: WANTS_LINES,
-        number: 0,
+        rule: Rule::WantsLines,
         alone: true,
-        whole: NO_NUMBER,
+        whole: None,
     };
-    let p = all_words(s, k, place);
-    if p.rule != 0 {
-        return bad(p.place, p.rule, 0);
-    }
-    let mut y = x;
-    y.lines = (p.word % 256) as u8;
-    Meaning::Expect(y)
+    let p = all_words(s, k, place)?;
+    Ok(Meaning::Expect(Expected {
+        response,
+        lines: Some((p.word % 256) as u8),
+    }))
 }
 
-// Behind an answer nothing, or the interrupt lines; where none is given, the lines.
-fn lines_behind(s: &[u8], place: usize, answered: bool, code: u8, word: u32, rule: u32) -> Meaning
-    ensures { result ≡ expectations.lines_behind s.now place answered code word rule }
+// Behind a response nothing, or the interrupt lines; where none is given, the lines.
+#[tactic(auto, unfolding(crate::specs::Expectations::lines_behind))]
+fn lines_behind(
+    s: &[u8],
+    place: usize,
+    response: Option<Response>,
+    rule: Rule,
+) -> Result<Meaning, Fault>
+    ensures { result ≡ expectations.lines_behind s.now place response rule }
 {
-    let mut x = Expected {
-        answered: answered,
-        code: code,
-        word: word,
-        lined: false,
-        lines: 0,
-    };
     let t = by_name(s, place, Group::Expectations);
-    if answered & (t.to <= t.from) {
-        return Meaning::Expect(x);
+    if response.is_some() && t.is_empty() {
+        return Ok(Meaning::Expect(Expected {
+            response,
+            lines: None,
+        }));
     }
-    if t.name != 2 {
-        return bad(t.from, rule, 0);
+    if let Sense::Name(2) = t.sense {
+        return with_lines(s, t.to, response);
     }
-    x.lined = true;
-    with_lines(s, t.to, x)
+    Err(Fault {
+        place: t.from,
+        rule,
+    })
 }
 
-pub(crate) fn expect_line(s: &[u8], place: usize) -> Meaning
+#[tactic(auto, unfolding(crate::specs::Expectations::refused))]
+fn refused(s: &[u8], place: usize) -> Result<Meaning, Fault>
+    ensures { result ≡ expectations.refused s.now place }
+{
+    let v = numeral(s, place);
+    let code = v.up_to(255, Rule::WantsRefusal)?;
+    if code == 0 {
+        return Err(Fault {
+            place: v.from,
+            rule: Rule::WantsRefusal,
+        });
+    }
+    let refusal = Response {
+        code: code as u8,
+        word: 0,
+    };
+    lines_behind(s, v.to, Some(refusal), Rule::WantsLinesOrEnd)
+}
+
+#[tactic(auto, unfolding(crate::specs::Expectations::expect_line))]
+pub(crate) fn expect_line(s: &[u8], place: usize) -> Result<Meaning, Fault>
     ensures { result ≡ expectations.expect_line s.now place }
 {
     let t = by_name(s, place, Group::Expectations);
-    if t.name == 1 {
-        let v = numeral(s, t.to);
-        if (v.number == 0) | (255 < v.number) {
-            return bad(v.from, WANTS_REFUSAL, 0);
+    match t.sense {
+        Sense::Name(1) => refused(s, t.to),
+        Sense::Numeral(_) => {
+            let word = t.up_to(u32::MAX, Rule::WantsNumber(u32::MAX))?;
+            let response = Some(Response { code: 0, word });
+            lines_behind(s, t.to, response, Rule::WantsLinesOrEnd)
         }
-        return lines_behind(s, v.to, true, v.number as u8, 0, WANTS_LINES_OR_END);
+        _ => lines_behind(s, place, None, Rule::WantsExpectation),
     }
-    if t.numeric {
-        if 4294967295 < t.number {
-            return bad(t.from, WANTS_NUMBER, 4294967295);
-        }
-        return lines_behind(s, t.to, true, 0, t.word, WANTS_LINES_OR_END);
-    }
-    lines_behind(s, place, false, 0, 0, WANTS_EXPECTATION)
 }

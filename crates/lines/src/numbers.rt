@@ -1,89 +1,123 @@
-// Words of a line as numbers, and names that stand for numbers. 2^32 is no number.
+// Words of a line as numbers, and names that stand for numbers.
 ghost use Rattle.std.specs.Prelude.{◌≡◌};
 ghost use Rattle.lines.specs.Numbers as numbers;
 
+use super::{Fault, Rule};
 use names::Group;
-use names::rows::NONE;
-use names::scan::{byte_at, value, word_at};
+use names::scan::{Word, byte_at, value, word_at};
 
-pub(crate) const NO_NUMBER: u64 = 4294967296;
+// What a word stands for: one that begins with a decimal digit for a number, if that has 32 bits, or a name for a number.
+#[derive(Clone, Copy, Debug, PartialEq, Eq)]
+pub(crate) enum Sense {
+    Numeral(Option<u32>),
+    Name(u32),
+    Unknown,
+}
 
-// A word of a line: where it stands, where the line goes on behind a number, whether it begins with a decimal digit, the number that it
-// stands for, this number as a word, and the number where it stands for it as a name.
+// A word of a line: where it stands, and what it stands for.
 #[derive(Clone, Copy)]
 pub(crate) struct Term {
     pub(crate) from: usize,
     pub(crate) to: usize,
-    pub(crate) rest: usize,
-    pub(crate) numeric: bool,
-    pub(crate) number: u64,
-    pub(crate) word: u32,
-    pub(crate) name: u64,
+    pub(crate) sense: Sense,
 }
 
-// The next word as a number: hex digits behind 0x, or decimal ones.
+impl Term {
+    // Nothing stands there.
+    pub(crate) fn is_empty(self) -> bool
+        ensures { result ≡ numbers.is_empty self }
+    {
+        self.to <= self.from
+    }
+
+    pub(crate) fn number(self) -> Option<u32>
+        ensures { result ≡ numbers.number_of self.sense }
+    {
+        match self.sense {
+            Sense::Numeral(n) => n,
+            Sense::Name(n) => Some(n),
+            Sense::Unknown => None,
+        }
+    }
+
+    pub(crate) fn name(self) -> Option<u32>
+        ensures { result ≡ numbers.name_of self.sense }
+    {
+        match self.sense {
+            Sense::Name(n) => Some(n),
+            _ => None,
+        }
+    }
+
+    // The number, up to a limit; any other word breaks the rule.
+    pub(crate) fn up_to(self, most: u32, rule: Rule) -> Result<u32, Fault>
+        ensures { result ≡ numbers.up_to self most rule }
+    {
+        match self.number() {
+            Some(n) if n <= most => Ok(n),
+            _ => Err(Fault {
+                place: self.from,
+                rule,
+            }),
+        }
+    }
+}
+
+// Hex digits behind 0x, or decimal ones.
+#[tactic(auto, unfolding(crate::specs::Numbers::sense_of))]
+fn sense_of(s: &[u8], w: Word) -> Sense
+    ensures { result ≡ numbers.sense_of s.now w }
+{
+    let first = byte_at(s, w.from);
+    if first < b'0' || b'9' < first {
+        return Sense::Unknown;
+    }
+    let digits = w.from + 2;
+    if first == b'0' && byte_at(s, w.from + 1) == b'x' && digits < w.to {
+        return Sense::Numeral(value(s, digits, w.to, true));
+    }
+    Sense::Numeral(value(s, w.from, w.to, false))
+}
+
+// The next word as a number.
+#[tactic(auto, unfolding(crate::specs::Numbers::numeral))]
 pub(crate) fn numeral(s: &[u8], place: usize) -> Term
     ensures { result ≡ numbers.numeral s.now place }
 {
     let w = word_at(s, place);
-    let first = byte_at(s, w.from);
-    if (first < 48) | (57 < first) {
-        return Term {
-            from: w.from,
-            to: w.to,
-            rest: w.from,
-            numeric: false,
-            number: NO_NUMBER,
-            word: 0,
-            name: NO_NUMBER,
-        };
-    }
-    let x = byte_at(s, w.from + 1);
-    let digits = w.from + 2;
-    if (first == b'0') & (x == b'x') & (digits < w.to) {
-        let n = value(s, digits, w.to, true);
-        return Term {
-            from: w.from,
-            to: w.to,
-            rest: w.to,
-            numeric: true,
-            number: n,
-            word: (n % 4294967296) as u32,
-            name: NO_NUMBER,
-        };
-    }
-    let n = value(s, w.from, w.to, false);
     Term {
         from: w.from,
         to: w.to,
-        rest: w.to,
-        numeric: true,
-        number: n,
-        word: (n % 4294967296) as u32,
-        name: NO_NUMBER,
+        sense: sense_of(s, w),
+    }
+}
+
+// What a word stands for as a name.
+#[tactic(auto, unfolding(crate::specs::Numbers::named_sense))]
+fn named_sense(s: &[u8], w: Word, g: Group) -> Sense
+    ensures { result ≡ numbers.named_sense s.now w g }
+{
+    let Some(found) = names::named(s, w, g) else {
+        return Sense::Unknown;
+    };
+    match u32::try_from(found.place()) {
+        Ok(n) => Sense::Name(n),
+        Err(_) => Sense::Unknown,
     }
 }
 
 // The next word as a number, or else what it stands for as a name.
+#[tactic(auto, unfolding(crate::specs::Numbers::by_name, crate::specs::Numbers::numeral))]
 pub(crate) fn by_name(s: &[u8], place: usize, g: Group) -> Term
     ensures { result ≡ numbers.by_name s.now place g }
 {
     let t = numeral(s, place);
-    if t.numeric {
+    if let Sense::Numeral(_) = t.sense {
         return t;
     }
-    let f = names::named(s, word_at(s, place), g);
-    if f.row == NONE {
-        return t;
-    }
-    let n = names::place(f);
     Term {
         from: t.from,
         to: t.to,
-        rest: t.from,
-        numeric: false,
-        number: n,
-        word: (n % 4294967296) as u32,
-        name: n,
+        sense: named_sense(s, word_at(s, place), g),
     }
 }

@@ -1,32 +1,16 @@
--- A literal of rows one behind the other, cut at row i, is row i of the list; and what the loop that cuts it needs.
+-- A literal of rows one behind the other, cut at row i, is row i of the list.
 use mathlib.Core.Bool.{Bool, true, false, ◌&&◌}
 use mathlib.Core.Path.{◌≡◌, refl, sym, ap, ◌∙◌}
 use mathlib.Core.List.{List, [], ◌∷◌, ◌++◌}
-use Prim.Native.Nat.{ℕ, zero, suc, ◌+◌, ◌*◌, ◌/◌, ◌<◌, ◌≤◌}
-use native.Mathlib.Numerals.{add-one}
+use Prim.Native.Nat.{ℕ, zero, suc, ◌+◌, ◌*◌, ◌/◌, ◌<◌}
 use native.Mathlib.Omega.{arith}
 use lib.Dec.{eqb, leb}
-use lib.ListN.{length, get_or, take, drop, set, length-append, length-drop}
-use lib.Seq.{take-suc, take-suc-set, take_all, take_at, drop-append-add, get_or-drop}
+use lib.ListN.{length, take, drop, length-append}
+use lib.Seq.{take_at, drop-append-add}
 use borrow.Author.Tests.{eqb-true, leb-true, leb-false, le-leb, lt-leb}
 use Rattle.base.specs.Base.{pick}
 use Rattle.base.proofs.Choices.{Is, and_l, and_r}
 use Rattle.names.specs.Listing.{no_row, cut, row_of}
-
--- ---- the loop
-
-module _ (s row : List ℕ) (from k : ℕ) where
-  pub one_more : k < 14 → length row ≡ 14 → from + 14 ≤ length s → take k row ≡ take k (drop from s)
-      → take (k + 1) (set row k (get_or s (from + k) 0)) ≡ take (k + 1) (drop from s)
-  one_more h e f t =
-      let a : k < length row = omega arith in
-      let b : k < length (drop from s) = simp length-drop (omega arith) in
-      rw (add-one k) (take-suc-set row k (get_or s (from + k) 0) a ∙ rw (t, ← (get_or-drop from s k 0)) (sym (take-suc (drop from s) k 0 b)))
-
-  pub all-cut : 14 ≤ k → k ≤ 14 → length row ≡ 14 → take k row ≡ take k (drop from s) → row ≡ take 14 (drop from s)
-  all-cut h l e t =
-      let j : k ≡ 14 = omega arith in
-      sym (take_all 14 row (omega arith)) ∙ (rw j at t)
 
 -- ---- the rows
 

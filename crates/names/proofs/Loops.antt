@@ -1,16 +1,17 @@
 -- The definitions that count what is left, one place on and at their end: what a loop needs to carry them.
 use mathlib.Core.Bool.{Bool, true, false, not, ◌||◌}
-use mathlib.Core.Path.{◌≡◌, refl, ap, ◌∙◌}
+use mathlib.Core.Path.{◌≡◌, refl, sym, ap, ◌∙◌}
 use mathlib.Core.List.{List, [], ◌∷◌}
-use Prim.Native.Nat.{ℕ, zero, suc, ◌+◌, ◌-◌, ◌*◌, ◌^◌, ◌<◌, ◌≤◌}
+use Prim.Native.Nat.{ℕ, zero, suc, ◌+◌, ◌-◌, ◌<◌, ◌≤◌}
 use native.Mathlib.Omega.{arith}
 use lib.Dec.{eqb, leb}
 use lib.ListN.{length, get_or}
-use borrow.Author.Tests.{leb-true, leb-false, le-leb, lt-leb, lt-ltb, le-ltb, eq-eqb, ne_eqb}
+use borrow.Author.Tests.{leb-true, leb-false, le-leb, lt-leb, eq-eqb, ne_eqb}
 use Rattle.base.specs.Base.{pick}
-use Rattle.names.specs.Scan.{byte_at, digit_of, is_of, run_on, base_of, with_digit, value_on}
+use Rattle.std.specs.Prelude.{Option, Some, None, max}
+use Rattle.names.specs.Scan.{byte_at, is_of, run_on, run_end, with_digit, value_on}
 use Rattle.names.specs.Listing.{text}
-use Rattle.names.specs.Rows.{none, nowhere, same_on, is_named, find_on, is_at, index_at, register_on}
+use Rattle.names.specs.Rows.{found, same_on, is_named, find_on, index_at, register_on}
 use Rattle.names.specs.declared.scan.Class.{Class}
 use Rattle.names.specs.declared.scan.Word.{Word}
 
@@ -34,47 +35,36 @@ module _ (s : List ℕ) (i j : ℕ) (k : Class) where
   unfolding run_on
   run-ended h = ap (run_on s i k) (none_left i j h)
 
+-- the whole run, where it goes to the end of the text or begins behind it
+pub run-over : (s : List ℕ) (from i : ℕ) (k : Class) → length s ≤ i → (from ≤ length s → i ≤ length s)
+    → run_on s i k (length s - i) ≡ run_end s from k → max from (length s) ≡ run_end s from k
+unfolding run_end
+run-over s from i k h l e = go (leb from (length s)) refl
+  where
+    go : (b : Bool) → leb from (length s) ≡ b → max from (length s) ≡ run_on s from k (length s - from)
+    go true t =
+        let f : from ≤ length s = leb-true from (length s) t in
+        let g : i ≤ length s = l f in
+        let m : max from (length s) ≡ i = omega arith in
+        m ∙ sym (run-ended s i (length s) k h) ∙ e
+    go false t =
+        let f : length s < from = leb-false from (length s) t in
+        let m : max from (length s) ≡ from = omega arith in
+        m ∙ sym (run-ended s from (length s) k (omega arith))
+
 -- what is read past the end does not matter inside
 pub inside : (l : List ℕ) (i a b : ℕ) → i < length l → get_or l i a ≡ get_or l i b
 inside [] i a b h = absurd (omega arith)
 inside (x ∷ l) zero a b h = refl
 inside (x ∷ l) (suc i) a b h = inside l i a b (omega arith)
 
-module _ (a c d b : ℕ) (hex : Bool) (e : d ≡ digit_of c) (f : b ≡ base_of hex) where
-  digit-none : b ≤ d → with_digit a c hex ≡ 2 ^ 32
-  unfolding with_digit
-  digit-none h = simp (← e, ← f, le-leb b d h)
-
-  digit-over : d < b → a < 2 ^ 32 → 2 ^ 32 ≤ a * b + d → with_digit a c hex ≡ 2 ^ 32
-  unfolding with_digit
-  digit-over h k l = simp (← e, ← f, lt-leb b d h, lt-leb (2 ^ 32) a k, le-ltb (a * b + d) (2 ^ 32) l)
-
-  pub digit-more : d < b → a < 2 ^ 32 → a * b + d < 2 ^ 32 → with_digit a c hex ≡ a * b + d
-  unfolding with_digit
-  digit-more h k l = simp (← e, ← f, lt-leb b d h, lt-leb (2 ^ 32) a k, lt-ltb (a * b + d) (2 ^ 32) l)
-
-  pub digit-ends : (leb b d || leb (2 ^ 32) (a * b + d)) ≡ true → a < 2 ^ 32 → with_digit a c hex ≡ 2 ^ 32
-  digit-ends h k = go (leb b d) refl h
-    where
-      go : (x : Bool) → leb b d ≡ x → (x || leb (2 ^ 32) (a * b + d)) ≡ true → with_digit a c hex ≡ 2 ^ 32
-      go true l t = digit-none (leb-true b d l)
-      go false l t = digit-over (leb-false b d l) k (leb-true (2 ^ 32) (a * b + d) t)
-
 -- once there is no number, there stays none
-or_stuck : (b : Bool) (x : ℕ) → pick (b || leb (2 ^ 32) (2 ^ 32)) (2 ^ 32) x ≡ 2 ^ 32
-or_stuck true x = refl
-or_stuck false x = refl
-
-digit_stuck : (c : ℕ) (hex : Bool) → with_digit (2 ^ 32) c hex ≡ 2 ^ 32
-unfolding with_digit
-digit_stuck c hex = or_stuck (leb (base_of hex) (digit_of c)) _
-
-value_stuck : (s : List ℕ) (hex : Bool) (n i : ℕ) → value_on s i hex n (2 ^ 32) ≡ 2 ^ 32
-unfolding value_on
+value_stuck : (s : List ℕ) (hex : Bool) (n i : ℕ) → value_on s i hex n None ≡ None
+unfolding value_on with_digit
 value_stuck s hex zero i = refl
-value_stuck s hex (suc n) i = rw (digit_stuck (byte_at s i) hex) (value_stuck s hex n (i + 1))
+value_stuck s hex (suc n) i = value_stuck s hex n (i + 1)
 
-module _ (s : List ℕ) (i j a : ℕ) (hex : Bool) where
+module _ (s : List ℕ) (i j : ℕ) (a : Option ℕ) (hex : Bool) where
   pub value_on_lem : i < j → value_on s i hex (j - i) a ≡ value_on s (i + 1) hex (j - (i + 1)) (with_digit a (byte_at s i) hex)
   unfolding value_on
   value_on_lem h = ap (λ (n : ℕ). value_on s i hex n a) (left i j h)
@@ -83,7 +73,7 @@ module _ (s : List ℕ) (i j a : ℕ) (hex : Bool) where
   unfolding value_on
   value-ended h = ap (λ (n : ℕ). value_on s i hex n a) (none_left i j h)
 
-  pub value-stops : i < j → with_digit a (byte_at s i) hex ≡ 2 ^ 32 → value_on s i hex (j - i) a ≡ 2 ^ 32
+  pub value-stops : i < j → with_digit a (byte_at s i) hex ≡ None → value_on s i hex (j - i) a ≡ None
   value-stops h e = value_on_lem h ∙ rw e (value_stuck s hex (j - (i + 1)) (i + 1))
 
 module _ (s : List ℕ) (w : Word) (t : List ℕ) (k p j : ℕ) where
@@ -104,47 +94,44 @@ module _ (s : List ℕ) (w : Word) (t : List ℕ) (k p j : ℕ) where
     pub same_digits : (c ≡ 32 → ⊥) → c ≡ 37 → p ≡ w.digits → same_on s w t k p (j - k) ≡ same_on s w t (k + 1) w.rest (j - (k + 1))
     same_digits f g d = same_on_lem h ∙ simp (← e, ne_eqb c 32 f, eq-eqb c 37 g, eq-eqb p w.digits d)
 
-    module _ (x : ℕ) (y : x ≡ byte_at s p) (f : c ≡ 32 → ⊥) (g : c ≡ 37 → ⊥) where
-      pub same-other : (leb w.to p || not (eqb x c)) ≡ true → same_on s w t k p (j - k) ≡ false
-      same-other d = same_on_lem h ∙ simp (← e, ← y, ne_eqb c 32 f, ne_eqb c 37 g, d)
+    module _ (f : c ≡ 32 → ⊥) (g : c ≡ 37 → ⊥) where
+      pub same_past : w.to ≤ p → same_on s w t k p (j - k) ≡ false
+      same_past d = same_on_lem h ∙ simp (← e, ne_eqb c 32 f, ne_eqb c 37 g, le-leb w.to p d)
 
-      pub same_letter : (leb w.to p || not (eqb x c)) ≡ false → same_on s w t k p (j - k) ≡ same_on s w t (k + 1) (p + 1) (j - (k + 1))
-      same_letter d = same_on_lem h ∙ simp (← e, ← y, ne_eqb c 32 f, ne_eqb c 37 g, d)
+      module _ (x : ℕ) (y : x ≡ byte_at s p) (l : p < w.to) where
+        pub same-other : (x ≡ c → ⊥) → same_on s w t k p (j - k) ≡ false
+        same-other d = same_on_lem h ∙ simp (← e, ← y, ne_eqb c 32 f, ne_eqb c 37 g, lt-leb w.to p l, ne_eqb x c d)
+
+        pub same_letter : x ≡ c → same_on s w t k p (j - k) ≡ same_on s w t (k + 1) (p + 1) (j - (k + 1))
+        same_letter d = same_on_lem h ∙ simp (← e, ← y, ne_eqb c 32 f, ne_eqb c 37 g, lt-leb w.to p l, eq-eqb x c d)
 
   pub same_ended : j ≤ k → same_on s w t k p (j - k) ≡ eqb p w.to
   unfolding same_on
   same_ended h = ap (same_on s w t k p) (none_left k j h)
 
-module _ (s : List ℕ) (w : Word) (row k j : ℕ) where
-  further : k < j → find_on s w (row + k) (j - k) ≡ pick (is_named s w (text (row + k))) (row + k) (find_on s w (row + (k + 1)) (j - (k + 1)))
+-- the rows from one up to another
+module _ (s : List ℕ) (w : Word) (row j : ℕ) where
+  pub find_on_lem : row < j → is_named s w (text row) ≡ false → find_on s w row (j - row) ≡ find_on s w (row + 1) (j - (row + 1))
   unfolding find_on
-  further h =
-      let e : row + k + 1 ≡ row + (k + 1) = omega arith in
-      ap (find_on s w (row + k)) (left k j h) ∙ ap (λ (r : ℕ). pick (is_named s w (text (row + k))) (row + k) (find_on s w r (j - (k + 1)))) e
+  find_on_lem h e = ap (find_on s w row) (left row j h) ∙ ap (λ (b : Bool). pick b (Some row) (find_on s w (row + 1) (j - (row + 1)))) e
 
-  pub find_on_lem : k < j → is_named s w (text (row + k)) ≡ false → find_on s w (row + k) (j - k) ≡ find_on s w (row + (k + 1)) (j - (k + 1))
-  find_on_lem h e = further h ∙ ap (λ (b : Bool). pick b (row + k) (find_on s w (row + (k + 1)) (j - (k + 1)))) e
-
-  pub find_stops : k < j → is_named s w (text (row + k)) ≡ true → find_on s w (row + k) (j - k) ≡ row + k
-  find_stops h e = further h ∙ ap (λ (b : Bool). pick b (row + k) (find_on s w (row + (k + 1)) (j - (k + 1)))) e
-
-  pub find_ended : j ≤ k → find_on s w (row + k) (j - k) ≡ none
+  pub find_stops : row < j → is_named s w (text row) ≡ true → find_on s w row (j - row) ≡ Some row
   unfolding find_on
-  find_ended h = ap (find_on s w (row + k)) (none_left k j h)
+  find_stops h e = ap (find_on s w row) (left row j h) ∙ ap (λ (b : Bool). pick b (Some row) (find_on s w (row + 1) (j - (row + 1)))) e
+
+  pub find_ended : j ≤ row → find_on s w row (j - row) ≡ None
+  unfolding find_on
+  find_ended h = ap (find_on s w row) (none_left row j h)
 
 module _ (o row j : ℕ) where
-  pub register_on_lem : row < j → is_at row o ≡ false → register_on o row (j - row) ≡ register_on o (row + 1) (j - (row + 1))
+  pub register_on_lem : row < j → index_at row o ≡ None → register_on o row (j - row) ≡ register_on o (row + 1) (j - (row + 1))
   unfolding register_on
-  register_on_lem h e =
-      ap (register_on o row) (left row j h)
-      ∙ ap (λ (b : Bool). pick b (record { row = row; index = index_at row o }) (register_on o (row + 1) (j - (row + 1)))) e
+  register_on_lem h e = ap (register_on o row) (left row j h) ∙ rw e
 
-  pub register-stops : row < j → is_at row o ≡ true → register_on o row (j - row) ≡ record { row = row; index = index_at row o }
+  pub register-stops : (i : ℕ) → row < j → index_at row o ≡ Some i → register_on o row (j - row) ≡ Some (found row i)
   unfolding register_on
-  register-stops h e =
-      ap (register_on o row) (left row j h)
-      ∙ ap (λ (b : Bool). pick b (record { row = row; index = index_at row o }) (register_on o (row + 1) (j - (row + 1)))) e
+  register-stops i h e = ap (register_on o row) (left row j h) ∙ rw e
 
-  pub register-ended : j ≤ row → register_on o row (j - row) ≡ nowhere
+  pub register-ended : j ≤ row → register_on o row (j - row) ≡ None
   unfolding register_on
   register-ended h = ap (register_on o row) (none_left row j h)

@@ -8,7 +8,7 @@
 --                    first field
 --     byte 13        of a field when it is shown: 0 always, 1 while IDE is 0, 2 while it is 1; of a register how many rows of fields
 --                    it has
-use Rattle.std.specs.Prelude.{Bool, false, ◌&&◌, ◌||◌, not, List, ℕ, zero, suc, ◌+◌, ◌-◌, ◌*◌, ◌/◌, ◌%◌, eqb, ltb, leb, get_or}
+use Rattle.std.specs.Prelude.{Bool, false, ◌&&◌, ◌||◌, not, List, ℕ, zero, suc, ◌+◌, ◌-◌, ◌*◌, ◌/◌, ◌%◌, eqb, ltb, leb, get_or, Option, Some, None}
 use Rattle.base.specs.Base.{pick}
 use Rattle.names.specs.Scan.{byte_at, value}
 use Rattle.names.specs.Listing.{text}
@@ -16,12 +16,8 @@ use Rattle.names.specs.declared.scan.Word.{Word}
 use Rattle.names.specs.declared.rows.Found.{Found}
 use Rattle.names.specs.declared.rows.Numbers.{Numbers}
 
--- no row: there are 164
-abbrev pub none : ℕ
-none = 164
-
-abbrev pub nowhere : Found
-nowhere = record { row = none; index = 0 }
+abbrev pub found : ℕ → ℕ → Found
+found row i = record { row = row; index = i }
 
 -- ---- numbers
 
@@ -49,35 +45,43 @@ unfoldable pub is_named : List ℕ → Word → List ℕ → Bool
 is_named s w t = same_on s w t 0 w.from 8
 
 -- the first of n rows from this one on that has the name
-unfoldable pub find_on : List ℕ → Word → ℕ → ℕ → ℕ
-find_on s w row zero = none
-find_on s w row (suc n) = pick (is_named s w (text row)) row (find_on s w (row + 1) n)
+unfoldable pub find_on : List ℕ → Word → ℕ → ℕ → Option ℕ
+find_on s w row zero = None
+find_on s w row (suc n) = pick (is_named s w (text row)) (Some row) (find_on s w (row + 1) n)
 
 -- a word has digits, and they are a number as it is written: with no zero in front
 abbrev pub is_plain : List ℕ → Word → Bool
 is_plain s w = eqb (w.rest - w.digits) 1 || (not (eqb (w.rest - w.digits) 0) && not (eqb (byte_at s w.digits) 48))
 
+-- the number is one of the row's
+abbrev pub counted : ℕ → Option ℕ → Option Found
+counted row None = None
+counted row (Some i) = pick (leb (numbers row).count i) None (Some (found row i))
+
 -- a row by name, with the number in the word where there are several
-unfoldable pub indexed : List ℕ → Word → ℕ → Found
-indexed s w row =
-    pick (leb (numbers row).count 1) (record { row = row; index = 0 })
-    (pick (is_plain s w && ltb (value s w.digits w.rest false) (numbers row).count)
-    (record { row = row; index = value s w.digits w.rest false })
-    nowhere)
+unfoldable pub indexed : List ℕ → Word → Option ℕ → Option Found
+indexed s w None = None
+indexed s w (Some row) =
+    pick (leb (numbers row).count 1) (Some (found row 0))
+    (pick (is_plain s w) (counted row (value s w.digits w.rest false)) None)
 
 -- ---- by offset
 
--- how many sizes an offset is behind a place; the count where it is none of them
-abbrev pub index_in : ℕ → ℕ → ℕ → ℕ → ℕ
-index_in p s c o = pick (ltb o p || eqb s 0) c (pick (not (eqb ((o - p) % s) 0)) c ((o - p) / s))
+-- how many sizes an offset is behind a place, where it is so many that are counted
+abbrev pub index_in : ℕ → ℕ → ℕ → ℕ → Option ℕ
+index_in p s c o =
+    pick (ltb o p || eqb s 0) None
+    (pick (not (eqb ((o - p) % s) 0) || leb c ((o - p) / s)) None (Some ((o - p) / s)))
 
-unfoldable pub index_at : ℕ → ℕ → ℕ
+unfoldable pub index_at : ℕ → ℕ → Option ℕ
 index_at row o = index_in (numbers row).place (numbers row).size (numbers row).count o
 
-abbrev pub is_at : ℕ → ℕ → Bool
-is_at row o = ltb (index_at row o) (numbers row).count
+-- a row where it has an index, or else what is found behind it
+abbrev pub or_behind : ℕ → Option ℕ → Option Found → Option Found
+or_behind row None x = x
+or_behind row (Some i) x = Some (found row i)
 
 -- the first of n rows from this one on that is at the offset
-unfoldable pub register_on : ℕ → ℕ → ℕ → Found
-register_on o row zero = nowhere
-register_on o row (suc n) = pick (is_at row o) (record { row = row; index = index_at row o }) (register_on o (row + 1) n)
+unfoldable pub register_on : ℕ → ℕ → ℕ → Option Found
+register_on o row zero = None
+register_on o row (suc n) = or_behind row (index_at row o) (register_on o (row + 1) n)

@@ -1,6 +1,6 @@
 -- Words, letters and numbers in a row of bytes: docs/LESSONS.md, "Lines and words". A place past the end holds a blank; places are
 -- numbers of 64 bits.
-use Rattle.std.specs.Prelude.{Bool, not, ◌&&◌, ◌||◌, List, ℕ, zero, suc, ◌+◌, ◌-◌, ◌*◌, ◌%◌, ◌^◌, eqb, ltb, leb, length, get_or}
+use Rattle.std.specs.Prelude.{Bool, not, ◌&&◌, ◌||◌, List, ℕ, zero, suc, ◌+◌, ◌-◌, ◌*◌, ◌%◌, ◌^◌, eqb, ltb, leb, length, get_or, Option, Some, None, is_some}
 use Rattle.base.specs.Base.{pick}
 use Rattle.names.specs.declared.scan.Class.{Class}
 use Rattle.names.specs.declared.scan.Class.TheVariants.{Blank, NoBlank, HexDigit, Digit, Letter}
@@ -22,19 +22,19 @@ is_blank c = eqb c 32 || eqb c 9 || eqb c 13
 abbrev pub is_within : ℕ → ℕ → ℕ → Bool
 is_within a b c = leb a c && leb c b
 
--- the value of 0 to 9, A to F, a to f; any other byte has 16
-unfoldable pub digit_of : ℕ → ℕ
+-- the value of 0 to 9, A to F, a to f
+unfoldable pub digit_of : ℕ → Option ℕ
 digit_of c =
-    pick (is_within 48 57 c) (c - 48)
-    (pick (is_within 65 70 c) (c - 55)
-    (pick (is_within 97 102 c) (c - 87) 16))
+    pick (is_within 48 57 c) (Some (c - 48))
+    (pick (is_within 65 70 c) (Some (c - 55))
+    (pick (is_within 97 102 c) (Some (c - 87)) None))
 
 unfoldable pub is_of : Class → ℕ → Bool
 is_of Blank c = is_blank c
 is_of NoBlank c = not (is_blank c)
-is_of HexDigit c = ltb (digit_of c) 16
-is_of Digit c = ltb (digit_of c) 10
-is_of Letter c = not (is_blank c) && leb 10 (digit_of c)
+is_of HexDigit c = is_some (digit_of c)
+is_of Digit c = is_within 48 57 c
+is_of Letter c = not (is_blank c) && not (is_within 48 57 c)
 
 -- from place i over bytes of a class, at most n
 unfoldable pub run_on : List ℕ → ℕ → Class → ℕ → ℕ
@@ -49,19 +49,23 @@ run_end s i k = run_on s i k (length s - i)
 abbrev pub base_of : Bool → ℕ
 base_of hex = pick hex 16 10
 
--- a number with one digit more; 2^32 is no number of 32 bits
-unfoldable pub with_digit : ℕ → ℕ → Bool → ℕ
-with_digit a c hex =
-    pick (leb (base_of hex) (digit_of c) || leb (2 ^ 32) a) (2 ^ 32)
-    (pick (ltb (a * base_of hex + digit_of c) (2 ^ 32)) (a * base_of hex + digit_of c) (2 ^ 32))
+-- the digit is one of the base, and the number is one of 32 bits
+abbrev pub shifted : ℕ → ℕ → Option ℕ → Option ℕ
+shifted a b None = None
+shifted a b (Some d) = pick (ltb d b && ltb (a * b + d) (2 ^ 32)) (Some (a * b + d)) None
+
+-- a number with one digit more; where there is no number, there stays none
+unfoldable pub with_digit : Option ℕ → ℕ → Bool → Option ℕ
+with_digit None c hex = None
+with_digit (Some a) c hex = shifted a (base_of hex) (digit_of c)
 
 -- the number a, with n digits more from place i on
-unfoldable pub value_on : List ℕ → ℕ → Bool → ℕ → ℕ → ℕ
+unfoldable pub value_on : List ℕ → ℕ → Bool → ℕ → Option ℕ → Option ℕ
 value_on s i hex zero a = a
 value_on s i hex (suc n) a = value_on s (i + 1) hex n (with_digit a (byte_at s i) hex)
 
-unfoldable pub value : List ℕ → ℕ → ℕ → Bool → ℕ
-value s i j hex = value_on s i hex (j - i) 0
+unfoldable pub value : List ℕ → ℕ → ℕ → Bool → Option ℕ
+value s i j hex = value_on s i hex (j - i) (Some 0)
 
 -- ---- words
 

@@ -2,21 +2,22 @@
 #![tactic(auto)]
 
 ghost use Rattle.std.specs.Prelude.{◌≡◌};
+ghost use Rattle.names.specs.Rows as rows;
 ghost use Rattle.names.specs.Table as tables;
 
-use rows::{Column, FIELDS, Found, NONE, REGISTERS, find, index_at, numbers_of};
-use scan::{Word, byte_at, distance, value};
+use rows::{FIELDS, Found, REGISTERS, find, numbers_of};
+use scan::{Word, byte_at, value};
 
 pub mod rows; // the rows of the table
 pub mod scan; // words, letters and numbers in a row of bytes
 pub mod table; // the table as bytes
 
-// What is told by name: the registers, the fields of a register by its row, what begins a line of a lesson, the result of an own
-// frame, the interrupt lines, what is expected.
-#[derive(Clone, Copy)]
+// What is told by name: the registers, the fields of a register, which has none where it is none, what begins a line of a lesson, the
+// result of an own frame, the interrupt lines, what is expected.
+#[derive(Clone, Copy, Debug, PartialEq, Eq)]
 pub enum Group {
     Registers,
-    Fields(usize),
+    Fields(Option<Found>),
     Steps,
     Results,
     Lines,
@@ -31,6 +32,7 @@ pub struct Span {
 }
 
 // The rows of a group.
+#[tactic(auto, unfolding(crate::specs::Table::rows_of))]
 pub fn rows_of(g: Group) -> Span
     ensures { result ≡ tables.rows_of g }
 {
@@ -39,13 +41,14 @@ pub fn rows_of(g: Group) -> Span
             first: 30,
             count: 23,
         },
-        Group::Fields(row) => {
-            let n = numbers_of(row);
+        Group::Fields(Some(register)) => {
+            let n = numbers_of(register.row);
             Span {
                 first: n.digits,
                 count: n.shown,
             }
         }
+        Group::Fields(None) => Span { first: 0, count: 0 },
         Group::Steps => Span {
             first: 0,
             count: 14,
@@ -65,71 +68,44 @@ pub fn rows_of(g: Group) -> Span
     }
 }
 
-// The row that a word names in a group, with the number in the word; that is written with no zero in front.
-pub fn named(s: &[u8], w: Word, g: Group) -> Found
+// Whether the digits of a word are a number as it is written: with no zero in front.
+fn is_plain(s: &[u8], w: Word) -> bool
+    ensures { result ≡ rows.is_plain s.now w }
+{
+    let count = w.rest.saturating_sub(w.digits);
+    count == 1 || (count != 0 && byte_at(s, w.digits) != b'0')
+}
+
+// The row that a word names in a group, with the number in the word.
+#[tactic(auto, unfolding(crate::specs::Table::named, crate::specs::Rows::indexed))]
+pub fn named(s: &[u8], w: Word, g: Group) -> Option<Found>
     ensures { result ≡ tables.named s.now w g }
 {
     let x = rows_of(g);
-    let row = find(s, w, x.first, x.count);
-    let count = number(row, Column::Count);
+    let row = find(s, w, x.first, x.count)?;
+    let count = numbers_of(row).count;
     if count <= 1 {
-        return Found { row: row, index: 0 };
+        return Some(Found { row, index: 0 });
     }
-    let i = value(s, w.digits, w.rest, false);
-    let d = distance(w.digits, w.rest);
-    let plain = (d == 1) | ((d != 0) & (byte_at(s, w.digits) != b'0'));
-    if plain & (i < count as u64) {
-        let index = i as u32;
-        return Found {
-            row: row,
-            index: index,
-        };
+    if !is_plain(s, w) {
+        return None;
     }
-    Found {
-        row: NONE,
-        index: 0,
+    let index = value(s, w.digits, w.rest, false)?;
+    if count <= index {
+        return None;
     }
+    Some(Found { row, index })
 }
 
 // The row of the register at an offset.
-pub fn register_at(offset: u32) -> Found
+#[tactic(auto, unfolding(crate::specs::Rows::index_at))]
+pub fn register_at(offset: u32) -> Option<Found>
     ensures { result ≡ tables.register_at offset }
 {
-    let mut row: usize = REGISTERS;
-    while row < FIELDS {
-        let n = numbers_of(row);
-        let index = index_at(n.place, n.size, n.count, offset);
-        if index < n.count {
-            return Found {
-                row: row,
-                index: index,
-            };
+    for row in REGISTERS..FIELDS {
+        if let Some(index) = numbers_of(row).index_of(offset) {
+            return Some(Found { row, index });
         }
-        row += 1;
     }
-    Found {
-        row: NONE,
-        index: 0,
-    }
-}
-
-// The number that a row has in a column.
-pub fn number(row: usize, c: Column) -> u32
-    ensures { result ≡ tables.number row c }
-{
-    let n = numbers_of(row);
-    match c {
-        Column::Place => n.place,
-        Column::Size => n.size,
-        Column::Count => n.count,
-        Column::Shown => n.shown,
-    }
-}
-
-// The number of what was found: the offset of a register, the lowest bit of a field, a tag, a result, a line.
-pub fn place(f: Found) -> u64
-    ensures { result ≡ tables.place f }
-{
-    let n = numbers_of(f.row);
-    n.place as u64 + n.size as u64 * f.index as u64
+    None
 }

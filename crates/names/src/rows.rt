@@ -1,31 +1,21 @@
 // The table of names: rows of 14 bytes, each with its name and some numbers.
 ghost use Rattle.std.specs.Prelude.{◌≡◌};
 ghost use Rattle.names.specs.Rows as rows;
+ghost use Rattle.names.specs.Table as tables;
 
 use super::scan::{Word, byte_at};
 use super::table::text;
-
-// No row.
-pub const NONE: usize = 164;
 
 // The registers are the rows from one up to another.
 pub(crate) const REGISTERS: usize = 30;
 
 pub(crate) const FIELDS: usize = 53;
 
-// A row, with the number that stands in a name for the percent sign; row NONE where there is none.
-#[derive(Clone, Copy)]
+// A row, with the number that stands in a name for the percent sign.
+#[derive(Clone, Copy, Debug, PartialEq, Eq)]
 pub struct Found {
     pub row: usize,
     pub index: u32,
-}
-
-#[derive(Clone, Copy)]
-pub enum Column {
-    Place,
-    Size,
-    Count,
-    Shown,
 }
 
 // The numbers of a row. A register has the row of its first field and the number of such rows in place of `digits` and `shown`.
@@ -38,16 +28,45 @@ pub struct Numbers {
     pub shown: u32,
 }
 
+#[tactic(auto, unfolding(crate::specs::Rows::numbers))]
 pub fn numbers_of(row: usize) -> Numbers
     ensures { result ≡ rows.numbers row }
 {
     let t = text(row);
     Numbers {
-        place: t[8] as u32 * 256 + t[9] as u32,
-        size: t[10] as u32,
-        count: t[11] as u32,
-        digits: t[12] as u32,
-        shown: t[13] as u32,
+        place: u32::from(t[8]) * 256 + u32::from(t[9]),
+        size: u32::from(t[10]),
+        count: u32::from(t[11]),
+        digits: u32::from(t[12]),
+        shown: u32::from(t[13]),
+    }
+}
+
+impl Numbers {
+    // How many sizes an offset is behind the place, where it is so many that are counted.
+    pub(crate) fn index_of(self, offset: u32) -> Option<u32>
+        ensures { result ≡ rows.index_in self.place self.size self.count offset }
+    {
+        if offset < self.place || self.size == 0 {
+            return None;
+        }
+        let distance = offset - self.place;
+        let index = distance / self.size;
+        if distance % self.size != 0 || self.count <= index {
+            return None;
+        }
+        Some(index)
+    }
+}
+
+impl Found {
+    // The number of what was found: the offset of a register, the lowest bit of a field, a tag, a result, a line.
+    #[tactic(auto, unfolding(crate::specs::Table::place))]
+    pub fn place(self) -> u64
+        ensures { result ≡ tables.place self }
+    {
+        let n = numbers_of(self.row);
+        u64::from(n.place) + u64::from(n.size) * u64::from(self.index)
     }
 }
 
@@ -58,10 +77,8 @@ fn is_named(s: &[u8], w: Word, name: &[u8]) -> bool
     ensures { result ≡ rows.is_named s.now w name.now }
 {
     let mut p = w.from;
-    let mut k: usize = 0;
-    while k < 8 {
+    for k in 0..8 {
         let c = byte_at(name, k);
-        k += 1;
         if c == b' ' {
             return p == w.to;
         }
@@ -72,7 +89,7 @@ fn is_named(s: &[u8], w: Word, name: &[u8]) -> bool
             p = w.rest;
             continue;
         }
-        if (w.to <= p) | (byte_at(s, p) != c) {
+        if w.to <= p || byte_at(s, p) != c {
             return false;
         }
         p += 1;
@@ -81,33 +98,14 @@ fn is_named(s: &[u8], w: Word, name: &[u8]) -> bool
 }
 
 // The first of so many rows that has this name.
-pub(crate) fn find(s: &[u8], w: Word, first: u32, count: u32) -> usize
+pub(crate) fn find(s: &[u8], w: Word, first: u32, count: u32) -> Option<usize>
     ensures { result ≡ rows.find_on s.now w first count }
 {
-    let mut k: u32 = 0;
-    while k < count {
-        let row = first as usize + k as usize;
-        let t = text(row);
-        if is_named(s, w, &t) {
-            return row;
+    let first = first as usize;
+    for row in first..first + count as usize {
+        if is_named(s, w, &text(row)) {
+            return Some(row);
         }
-        k += 1;
     }
-    NONE
-}
-
-// ---- by offset
-
-// How many steps of a size an offset is behind a place: its index there, or the count where it is none.
-pub(crate) fn index_at(place: u32, size: u32, count: u32, offset: u32) -> u32
-    ensures { result ≡ rows.index_in place size count offset }
-{
-    if (offset < place) | (size == 0) {
-        return count;
-    }
-    let d = offset - place;
-    if d % size != 0 {
-        return count;
-    }
-    d / size
+    None
 }

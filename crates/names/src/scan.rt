@@ -1,8 +1,8 @@
 // Words, letters and numbers in a row of bytes. Where a place is past the end, a blank is read.
-ghost use Rattle.std.specs.Prelude.{◌≡◌, ◌-◌};
+ghost use Rattle.std.specs.Prelude.{◌≡◌, Some};
 ghost use Rattle.names.specs.Scan as scan;
 
-#[derive(Clone, Copy)]
+#[derive(Clone, Copy, Debug, PartialEq, Eq)]
 pub enum Class {
     Blank,
     NoBlank,
@@ -20,42 +20,40 @@ pub struct Word {
     pub to: usize,
 }
 
+#[tactic(auto, unfolding(crate::specs::Scan::byte_at))]
 pub fn byte_at(s: &[u8], i: usize) -> u8
     ensures { result ≡ scan.byte_at s.now i }
 {
-    if i < s.len() {
-        return s[i];
-    }
-    32
+    s.get(i).copied().unwrap_or(b' ')
 }
 
-// The value of a hex digit, and 16 for any other byte.
-pub fn digit_of(c: u8) -> u8
+// The value of a hex digit.
+#[tactic(auto, unfolding(crate::specs::Scan::digit_of))]
+pub fn digit_of(c: u8) -> Option<u8>
     ensures { result ≡ scan.digit_of c }
 {
-    if (48 <= c) & (c <= 57) {
-        return c - 48;
+    match c {
+        b'0'..=b'9' => Some(c - b'0'),
+        b'A'..=b'F' => Some(c - b'A' + 10),
+        b'a'..=b'f' => Some(c - b'a' + 10),
+        _ => None,
     }
-    if (65 <= c) & (c <= 70) {
-        return c - 55;
-    }
-    if (97 <= c) & (c <= 102) {
-        return c - 87;
-    }
-    16
 }
 
-fn is_of(k: Class, c: u8) -> bool
-    ensures { result ≡ scan.is_of k c }
-{
-    let blank = (c == 32) | (c == 9) | (c == 13);
-    let d = digit_of(c);
-    match k {
-        Class::Blank => blank,
-        Class::NoBlank => !blank,
-        Class::HexDigit => d < 16,
-        Class::Digit => d < 10,
-        Class::Letter => !blank & (10 <= d),
+impl Class {
+    #[tactic(auto, unfolding(crate::specs::Scan::is_of))]
+    fn contains(self, c: u8) -> bool
+        ensures { result ≡ scan.is_of self c }
+    {
+        let blank = matches!(c, b' ' | b'\t' | b'\r');
+        let decimal = matches!(c, b'0'..=b'9');
+        match self {
+            Class::Blank => blank,
+            Class::NoBlank => !blank,
+            Class::HexDigit => digit_of(c).is_some(),
+            Class::Digit => decimal,
+            Class::Letter => !blank && !decimal,
+        }
     }
 }
 
@@ -63,67 +61,61 @@ fn is_of(k: Class, c: u8) -> bool
 pub fn run_end(s: &[u8], from: usize, k: Class) -> usize
     ensures { result ≡ scan.run_end s.now from k }
 {
-    let mut i = from;
-    while i < s.len() {
-        if !is_of(k, s[i]) {
+    for i in from..s.len() {
+        if !k.contains(s[i]) {
             return i;
         }
-        i += 1;
     }
-    i
+    from.max(s.len())
 }
 
 // ---- numbers
 
-// The number whose digits stand from one place up to another; 2^32 where it is no number of 32 bits.
-pub fn value(s: &[u8], from: usize, to: usize, hex: bool) -> u64
+// A number with one digit more.
+#[tactic(auto, unfolding(crate::specs::Scan::with_digit))]
+fn with_digit(n: u32, c: u8, hex: bool) -> Option<u32>
+    ensures { result ≡ scan.with_digit (Some n) c hex }
+{
+    let base = if hex { 16 } else { 10 };
+    let digit = u32::from(digit_of(c)?);
+    if base <= digit {
+        return None;
+    }
+    n.checked_mul(base)?.checked_add(digit)
+}
+
+// The number whose digits stand from one place up to another, where it is a number of 32 bits.
+pub fn value(s: &[u8], from: usize, to: usize, hex: bool) -> Option<u32>
     ensures { result ≡ scan.value s.now from to hex }
 {
-    let base: u64 = bits::pick(hex, 16, 10);
-    let mut a: u64 = 0;
-    let mut i = from;
-    while i < to {
-        let d = digit_of(byte_at(s, i)) as u64;
-        a = a * base + d;
-        if (base <= d) | (4294967296 <= a) {
-            return 4294967296;
-        }
-        i += 1;
+    let mut n = 0;
+    for i in from..to {
+        n = with_digit(n, byte_at(s, i), hex)?;
     }
-    a
+    Some(n)
 }
 
 // ---- words
 
-// How far one place is behind another.
-pub fn distance(from: usize, to: usize) -> usize
-    ensures { result ≡ to - from }
-{
-    if to <= from {
-        return 0;
-    }
-    to - from
-}
-
 // The first word at or behind a place; empty at a comment and at the end.
+#[tactic(auto, unfolding(crate::specs::Scan::word_at))]
 pub fn word_at(s: &[u8], place: usize) -> Word
     ensures { result ≡ scan.word_at s.now place }
 {
     let from = run_end(s, place, Class::Blank);
     if byte_at(s, from) == b'#' {
         return Word {
-            from: from,
+            from,
             digits: from,
             rest: from,
             to: from,
         };
     }
-    let to = run_end(s, from, Class::NoBlank);
     let digits = run_end(s, from, Class::Letter);
     Word {
-        from: from,
-        digits: digits,
+        from,
+        digits,
         rest: run_end(s, digits, Class::Digit),
-        to: to,
+        to: run_end(s, from, Class::NoBlank),
     }
 }

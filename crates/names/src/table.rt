@@ -4,18 +4,13 @@ ghost use Rattle.std.specs.Prelude.{◌≡◌};
 ghost use Rattle.names.specs.Listing as listing;
 
 // Row i of rows that stand one behind the other; where there is none zeros.
+#[tactic(auto, unfolding(crate::specs::Listing::cut))]
 fn cut(s: &[u8], i: usize) -> [u8; 14]
     ensures { result ≡ listing.cut s.now i }
 {
-    let mut row = [0u8; 14];
-    if s.len() / 14 <= i {
-        return row;
-    }
-    let from = i * 14;
-    let mut k: usize = 0;
-    while k < 14 {
-        row[k] = s[from + k];
-        k += 1;
+    let mut row = [0; 14];
+    if i < s.len() / 14 {
+        row.copy_from_slice(&s[i * 14..i * 14 + 14]);
     }
     row
 }
@@ -207,6 +202,7 @@ fn field(i: usize) -> [u8; 14]
 }
 
 // A row as bytes. Each part of the list has a function of its own, for a function stores all of its literals, whatever is asked.
+#[tactic(auto, unfolding(crate::specs::Listing::text))]
 pub fn text(row: usize) -> [u8; 14]
     ensures { result ≡ listing.text row }
 {

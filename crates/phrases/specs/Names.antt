@@ -2,7 +2,7 @@
 use Rattle.std.specs.Prelude.{Bool, not, ◌&&◌, ◌||◌, List, [], ◌∷◌, ◌++◌, ℕ, zero, suc, ◌+◌, ◌-◌, ◌*◌, ◌^◌, eqb, leb, get_or, Option, Some, None}
 use Rattle.base.specs.Base.{pick, bit, bits}
 use Rattle.names.specs.Listing.{text}
-use Rattle.names.specs.Rows.{none, numbers}
+use Rattle.names.specs.Rows.{numbers}
 use Rattle.names.specs.Table.{rows_of, place, register_at}
 use Rattle.names.specs.declared.rows.Found.{Found}
 use Rattle.names.specs.declared.Span.{Span}
@@ -32,8 +32,9 @@ abbrev pub leading : ℕ → List ℕ
 leading row = name_text row 0 ++ (32 ∷ [])
 
 -- where no register is, the offset; it has 16 bits
-abbrev pub register_of : Found → ℕ → List ℕ
-register_of f o = pick (eqb f.row none) (hex o 4) (name_text f.row f.index)
+abbrev pub register_of : Option Found → ℕ → List ℕ
+register_of None o = hex o 4
+register_of (Some f) o = name_text f.row f.index
 
 unfoldable pub register_text : ℕ → List ℕ
 register_text o = register_of (register_at o) o
@@ -88,7 +89,7 @@ fields_of x = fields_on x.first x.count
 
 -- those of the register at an offset
 abbrev pub fields_at : ℕ → List Found
-fields_at o = fields_of (rows_of (Fields (register_at o).row))
+fields_at o = fields_of (rows_of (Fields (register_at o)))
 
 -- ---- several fields
 

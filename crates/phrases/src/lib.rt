@@ -39,11 +39,9 @@ pub fn name(l: Line, row: usize, index: u32) -> Line
 pub fn register(l: Line, offset: u32) -> Line
     ensures { result ≡ lines.put_all l (naming.register_text offset) }
 {
-    let f = names::register_at(offset);
-    if f.row == names::rows::NONE {
-        l.hex(offset, 4)
-    } else {
-        name(l, f.row, f.index)
+    match names::register_at(offset) {
+        Some(f) => name(l, f.row, f.index),
+        None => l.hex(offset, 4),
     }
 }
 
@@ -100,7 +98,7 @@ fn field_of(f: Found, size: u32, shown: u32, w: u32) -> Option<Field>
     requires { (size ≡ (rows.numbers f.row).size) × (shown ≡ (rows.numbers f.row).shown) }
     ensures { result ≡ naming.field_of f w }
 {
-    let place = names::place(f);
+    let place = f.place();
     if 32 <= place || is_other(shown, w) {
         return None;
     }
@@ -141,8 +139,7 @@ fn with_row(s: Said, row: usize, w: u32) -> Said
 fn all_fields(l: Line, offset: u32, w: u32) -> Said
     ensures { result ≡ naming.said_of l (naming.fields_at offset) w }
 {
-    let f = names::register_at(offset);
-    let rows = names::rows_of(Group::Fields(f.row));
+    let rows = names::rows_of(Group::Fields(names::register_at(offset)));
     let first = rows.first as usize;
     let mut said = Said { line: l, rest: w };
     for row in first..first + rows.count as usize {

@@ -16,6 +16,6 @@ returns c =
     let x = c.rows_of-rows.result in
     let s : Said = record { line = c.args.l; rest = c.args.w } in
     let n : x.first + x.count - x.first ≡ x.count = omega arith in
-    let e = rw c.register_at-f.ensures at c.rows_of-rows.ensures in
+    let e = rw c.register_at.ensures at c.rows_of-rows.ensures in
     fields-ended c.loop-row.said _ _ c.loop-row.row (x.first + x.count) c.loop-row-test.false (rw n at c.loop-row.invariant)
     ∙ (ap (λ (y : Span). with_fields s (fields_of y) c.args.w) e ∙ all_said _ _ _)
