@@ -6,28 +6,28 @@ ghost use Rattle.std.specs.Prelude.{◌≡◌, ◌≤◌, ◌*◌, ◌-◌, ◌^
 ghost use Rattle.model.specs.Mailboxes as mailboxes;
 ghost use Rattle.model.specs.Reception as reception;
 
-use bits::{bit, one};
+use bits::bit;
 use model::{Fifo, FifoState, FilterNumber, Frame, MailboxState, StoredFrame};
 
 // ---- frames
 
+#[tactic(auto, unfolding(model::specs::Reception::malformed))]
 pub fn malformed(x: Frame) -> bool
     ensures { result ≡ reception.malformed x }
 {
     let extended = x.identifier / 8 % 0x40000;
-    bit(0, x.identifier) | (!bit(2, x.identifier) & !(extended == 0)) | (15 < x.length)
+    bit(0, x.identifier) | (!bit(2, x.identifier) & (extended != 0)) | (15 < x.length)
 }
 
+#[tactic(auto, unfolding(model::specs::Reception::data_bytes))]
 pub fn data_bytes(x: Frame) -> u8
     ensures { result ≡ reception.data_bytes x }
 {
     if bit(1, x.identifier) {
-        return 0;
+        0
+    } else {
+        x.length.min(8)
     }
-    if 8 <= x.length {
-        return 8;
-    }
-    x.length
 }
 
 // The 64 bits of eight bytes with the first n of them as 1: no branch on a length that changes from frame to frame.
@@ -36,7 +36,7 @@ fn bytes_mask(n: u8) -> u64
     ensures { result ≡ 2 ^ (8 * n) - 1 }
 {
     if n == 8 {
-        return 0xFFFFFFFFFFFFFFFF;
+        return u64::MAX;
     }
     let width = 8 * (n as u64);
     (1 << width) - 1
@@ -50,21 +50,24 @@ pub fn stored_frame(x: Frame, fmi: FilterNumber, time: u16) -> StoredFrame
     let high = mask >> 32;
     StoredFrame {
         ri: x.identifier,
-        rdt: (x.length as u32) + (fmi.0 as u32) * 256 + (time as u32) * 65536,
+        rdt: x.length as u32 + fmi.0 as u32 * 256 + time as u32 * 65536,
         rdl: x.low & (low as u32),
         rdh: x.high & (high as u32),
     }
 }
 
+#[tactic(auto, unfolding(model::specs::Mailboxes::sent_identifier))]
 pub fn sent_identifier(ti: u32) -> u32
     ensures { result ≡ mailboxes.sent_identifier ti }
 {
     if bit(2, ti) {
-        return ti;
+        ti
+    } else {
+        ti / 0x200000 * 0x200000 + ti / 2 % 2 * 2
     }
-    ti / 0x200000 * 0x200000 + ti / 2 % 2 * 2
 }
 
+#[tactic(auto, unfolding(model::specs::Reception::sent_frame))]
 pub fn sent_frame(x: MailboxState) -> Frame
     ensures { result ≡ reception.sent_frame x }
 {
@@ -115,123 +118,114 @@ fn same_frame(x: StoredFrame) -> StoredFrame
     }
 }
 
+#[tactic(auto, unfolding(model::specs::Reception::pushed))]
 pub fn pushed(q: FifoState, x: StoredFrame, rflm: bool) -> FifoState
     ensures { result ≡ reception.pushed q x rflm }
 {
     let mut p = q;
-    let n = q.count;
-    if n == 0 {
-        p.first = same_frame(x);
-        p.count = 1;
-        return p;
+    match q.count {
+        0 => {
+            p.first = same_frame(x);
+            p.count = 1;
+        }
+        1 => {
+            p.second = same_frame(x);
+            p.count = 2;
+        }
+        2 => {
+            p.third = same_frame(x);
+            p.count = 3;
+            p.full = true;
+        }
+        _ => {
+            p.fovr = true;
+            if !rflm {
+                p.third = same_frame(x);
+            }
+        }
     }
-    if n == 1 {
-        p.second = same_frame(x);
-        p.count = 2;
-        return p;
-    }
-    if n == 2 {
-        p.third = same_frame(x);
-        p.count = 3;
-        p.full = true;
-        return p;
-    }
-    p.fovr = true;
-    if rflm {
-        return p;
-    }
-    p.third = same_frame(x);
     p
 }
 
 pub fn goes_into(f: Fifo, a: Option<(Fifo, FilterNumber)>) -> bool
     ensures { result ≡ reception.goes_into f a }
 {
-    match f {
-        Fifo::F0 => match a {
-            Some((g, _)) => match g {
-                Fifo::F0 => true,
-                Fifo::F1 => false,
-            },
-            None => false,
-        },
-        Fifo::F1 => match a {
-            Some((g, _)) => match g {
-                Fifo::F0 => false,
-                Fifo::F1 => true,
-            },
-            None => false,
-        },
-    }
+    matches!(a, Some((g, _)) if g == f)
 }
 
 pub fn fmi_of(a: Option<(Fifo, FilterNumber)>) -> FilterNumber
     ensures { result ≡ reception.fmi_of a }
 {
-    match a {
-        Some((_, x)) => x,
-        None => FilterNumber(0),
-    }
+    a.map_or(FilterNumber(0), |(_, x)| x)
 }
 
-pub fn received(f: Fifo, a: Option<(Fifo, FilterNumber)>, x: StoredFrame, rflm: bool, q: FifoState) -> FifoState
+#[tactic(auto, unfolding(model::specs::Reception::received))]
+pub fn received(
+    f: Fifo,
+    a: Option<(Fifo, FilterNumber)>,
+    x: StoredFrame,
+    rflm: bool,
+    q: FifoState,
+) -> FifoState
     ensures { result ≡ reception.received f a x rflm q }
 {
     if goes_into(f, a) {
-        return pushed(q, x, rflm);
+        pushed(q, x, rflm)
+    } else {
+        q
     }
-    q
 }
 
 // FULL stays: only a write clears it.
+#[tactic(auto, unfolding(model::specs::Reception::released))]
 pub fn released(q: FifoState) -> FifoState
     ensures { result ≡ reception.released q }
 {
-    let mut p = q;
-    let n = q.count;
-    if n == 0 {
-        return p;
+    if q.count == 0 {
+        return q;
     }
-    let second = q.second;
-    let third = q.third;
-    p.first = same_frame(second);
-    p.second = same_frame(third);
-    p.third = no_frame();
-    p.count = n - 1;
-    p
+    FifoState {
+        first: same_frame(q.second),
+        second: same_frame(q.third),
+        third: no_frame(),
+        count: q.count - 1,
+        ..q
+    }
 }
 
+#[tactic(auto, unfolding(model::specs::Reception::cleared))]
 pub fn cleared(q: FifoState, w: u32) -> FifoState
     ensures { result ≡ reception.cleared q w }
 {
-    let mut p = q;
-    p.full = q.full & !bit(3, w);
-    p.fovr = q.fovr & !bit(4, w);
-    p
+    FifoState {
+        full: q.full & !bit(3, w),
+        fovr: q.fovr & !bit(4, w),
+        ..q
+    }
 }
 
+#[tactic(auto, unfolding(model::specs::Reception::rfr_written))]
 pub fn rfr_written(q: FifoState, w: u32) -> FifoState
     ensures { result ≡ reception.rfr_written q w }
 {
     let p = cleared(q, w);
-    if bit(5, w) {
-        return released(p);
-    }
-    p
+    if bit(5, w) { released(p) } else { p }
 }
 
+#[tactic(auto, using(base::proofs::Flags::from_bool_one, base::proofs::Flags::one_small), unfolding(model::specs::Reception::rfr_word))]
 pub fn rfr_word(q: FifoState) -> u32
     ensures { result ≡ reception.rfr_word q }
 {
-    (q.count as u32) + one(q.full) * 8 + one(q.fovr) * 16
+    u32::from(q.count) + u32::from(q.full) * 8 + u32::from(q.fovr) * 16
 }
 
+#[tactic(auto, unfolding(model::specs::Reception::output))]
 pub fn output(q: FifoState) -> StoredFrame
     ensures { result ≡ reception.output q }
 {
     if q.count == 0 {
-        return no_frame();
+        no_frame()
+    } else {
+        same_frame(q.first)
     }
-    let oldest = q.first;
-    same_frame(oldest)
 }
