@@ -10,7 +10,6 @@ use lib.ListN.{length, drop}
 use Rattle.base.specs.Base.{one}
 use Rattle.model.specs.Queue.{number, numbered}
 use Rattle.model.specs.Control.{mode_bits}
-use Rattle.model.specs.Mailboxes.{at}
 use Rattle.model.specs.Reachable.{MailboxRange, FrameRange, FifoRange, FilterRange, Words, ControlRange, InRange}
 use Rattle.model.specs.declared.Mailbox.{Mailbox}
 use Rattle.model.specs.declared.Mailbox.TheVariants.{M0, M1, M2}

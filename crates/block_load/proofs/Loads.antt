@@ -5,12 +5,11 @@ use mathlib.Core.Path.{◌≡◌, refl, sym, ap, ◌∙◌}
 use Prim.Native.Nat.{ℕ}
 use lib.ListN.{length, drop}
 use borrow.Author.Tests.{eq-eqb, ne_eqb}
-use Rattle.std.proofs.Common.{Result, Ok, Err}
+use Rattle.std.proofs.Common.{Ok, Err}
 use Rattle.base.specs.Base.{pick}
 use Rattle.base.proofs.Choices.{Is, Not, and-not}
 use Rattle.model.specs.Refusals.{code_of}
 use Rattle.model.specs.declared.Core.{Core}
-use Rattle.model.specs.declared.Controller.{Controller}
 use Rattle.model.specs.declared.Refusal.{Refusal}
 use Rattle.model.specs.declared.Refusal.TheVariants.{BadBlock}
 use Rattle.ranges.specs.Ranges.{in_range}
