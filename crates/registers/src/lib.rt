@@ -6,6 +6,7 @@ ghost use Rattle.model.specs.Registers as registers;
 
 use model::{Bank, Fifo, Mailbox, Register};
 
+#[tactic(auto, unfolding(model::specs::Registers::bank_register))]
 fn bank_register(b: Bank, k: u16) -> Register
     ensures { result ≡ registers.bank_register b k }
 {
@@ -17,6 +18,7 @@ fn bank_register(b: Bank, k: u16) -> Register
 }
 
 // One match over all offsets but those of the banks: what follows by register is then one jump.
+#[tactic(auto, unfolding(model::specs::Registers::register_at, model::specs::Registers::control_register, model::specs::Registers::block_register, model::specs::Registers::mailbox_register, model::specs::Registers::output_register, model::specs::Registers::filter_register))]
 pub fn register_at(o: u16) -> Register
     ensures { result ≡ registers.register_at o }
 {
@@ -54,15 +56,7 @@ pub fn register_at(o: u16) -> Register
         0x20C => Register::Fs1r,
         0x214 => Register::Ffa1r,
         0x21C => Register::Fa1r,
-        _ => {
-            if o < 0x240 {
-                return Register::Absent;
-            }
-            if 0x2B0 <= o {
-                return Register::Absent;
-            }
-            let i = (o - 0x240) / 8;
-            bank_register(Bank(i as u32), o % 8)
-        }
+        0x240..0x2B0 => bank_register(Bank(((o - 0x240) / 8) as u32), o % 8),
+        _ => Register::Absent,
     }
 }
