@@ -12,6 +12,7 @@ use Rattle.model.specs.declared.Replay.{Replay}
 use Rattle.model.specs.declared.Replayed.{Replayed}
 use Rattle.model.specs.declared.Step.{Step}
 use Rattle.writes.specs.Places.{changed}
+use Rattle.writes.specs.declared.BankWrite.{BankWrite}
 use Rattle.script.specs.OneWay.{core_replayed}
 use Rattle.script.specs.declared.CoreReplayed.{CoreReplayed}
 use Rattle.bench.specs.declared.Progress.{Progress}
@@ -21,15 +22,12 @@ use Rattle.bench.specs.declared.Recorded.{Recorded}
 abbrev pub Taken : Controller → Step → Answer → Controller → Type 0
 Taken z e r z' = (r ≡ answer_of (step z e)) × (z' ≡ (step z e).controller)
 
--- the next controller with this core, the banks' words as they are, or with the one at a place written
-abbrev pub with_core : Controller → Core → Controller
-with_core z d = record { core = d; banks = z.banks }
-
-abbrev pub with_bank_word : Controller → Core → ℕ → ℕ → Controller
-with_bank_word z d p w = record { core = d; banks = changed z.banks p w }
+-- the next controller, with this core and the words of the banks as they are written
+abbrev pub next_controller : Controller → Core → BankWrite → Controller
+next_controller z d x = record { core = d; banks = changed z.banks x }
 
 abbrev pub recorded_of : Replayed → Recorded
-recorded_of r = record { place = r.place; ended = r.ended; code = r.code; lines = r.lines; word = r.word }
+recorded_of r = record { place = r.place; ended = r.ended; answer = record { code = r.code; lines = r.lines; word = r.word } }
 
 -- the reply space with a reply written from place w on
 abbrev pub placed : ℕ → List ℕ → List ℕ → List ℕ
@@ -53,20 +51,28 @@ reply_bytes ended code = pick (ended || eqb code 9) 0 9
 
 -- nothing is replayed yet
 abbrev pub begun : Progress
-begun = record { place = 0; records = 0; written = 0; ended = false; code = 0; lines = 0; word = 0; going = true }
+begun = record { last = record { place = 0; ended = false; answer = record { code = 0; lines = 0; word = 0 } }; records = 0; written = 0 }
 
 -- one record more
 abbrev pub progressed : Progress → Recorded → Progress
 progressed p r = record {
-  place = r.place;
-  records = p.records + one (not (stops r.ended r.code));
-  written = p.written + reply_bytes r.ended r.code;
-  ended = r.ended;
-  code = r.code;
-  lines = r.lines;
-  word = r.word;
-  going = not (stops r.ended r.code);
+  last = r;
+  records = p.records + one (not (stops r.ended r.answer.code));
+  written = p.written + reply_bytes r.ended r.answer.code;
 }
 
+-- it stops with the last record
+abbrev pub is_over : Progress → Bool
+is_over p = stops p.last.ended p.last.answer.code
+
 abbrev pub finished : Controller → Progress → Replay
-finished c p = record { controller = c; place = p.place; records = p.records; written = p.written; ended = p.ended; code = p.code; lines = p.lines; word = p.word }
+finished c p = record {
+  controller = c;
+  place = p.last.place;
+  records = p.records;
+  written = p.written;
+  ended = p.last.ended;
+  code = p.last.answer.code;
+  lines = p.last.answer.lines;
+  word = p.last.answer.word;
+}

@@ -5,56 +5,31 @@
 ghost use Rattle.std.specs.Prelude.{◌≡◌, ◌+◌, ◌<◌, ◌^◌, length};
 ghost use Rattle.model.specs.Script as scripts;
 ghost use Rattle.model.specs.declared.Step.TheVariants as steps;
-ghost use Rattle.controller.specs.After as after;
 ghost use Rattle.script.specs.OneWay as way;
 ghost use Rattle.bench.specs.Lent as lent;
 
-use controller::CoreStepped;
 use model::{Answer, Controller, Core, Frame, Replay, Step};
 use script::CoreReplayed;
+use writes::BankWrite;
 
-// ---- the next controller, stored whole
-
-fn with_core(z: Controller, d: Core) -> Controller
-    ensures { result ≡ lent.with_core z d }
+// The next controller, stored whole; the words of the banks only where they change.
+fn store(c: &mut Controller, core: Core, write: BankWrite)
+    ensures { c.new ≡ lent.next_controller c.old core write }
 {
-    let v = z.banks;
-    Controller { core: d, banks: v }
-}
-
-fn with_bank_word(z: Controller, d: Core, place: u32, w: u32) -> Controller
-    ensures { result ≡ lent.with_bank_word z d place w }
-{
-    let b = z.banks;
-    let v = writes::banks_after(b, place, w);
-    Controller { core: d, banks: v }
+    c.core = core;
+    if !write.is_nothing() {
+        c.banks = writes::banks_after(c.banks, write);
+    }
 }
 
 // ---- one step
 
-fn core_stepped(z: Controller, e: Step) -> CoreStepped
-    ensures { result ≡ after.core_step z.core z.banks e }
-{
-    let c = z.core;
-    let v = z.banks;
-    controller::core_step(c, v, e)
-}
-
-// The banks' words are stored only where the step writes one.
 pub fn step(c: &mut Controller, e: Step) -> Answer
     ensures { lent.Taken c.old e result c.new }
 {
-    let s = core_stepped(*c, e);
-    if s.place == 28 {
-        *c = with_core(*c, s.core);
-    } else {
-        *c = with_bank_word(*c, s.core, s.place, s.value);
-    }
-    Answer {
-        code: s.code,
-        lines: s.lines,
-        word: s.word,
-    }
+    let s = controller::core_step(c.core, c.banks, e);
+    store(c, s.core, s.banks);
+    s.answer
 }
 
 // ---- each register access and bus event
@@ -128,9 +103,7 @@ pub fn receive_error(c: &mut Controller, code: u8, by: u8) -> Answer
 pub struct Recorded {
     pub place: usize,
     pub ended: bool,
-    pub code: u8,
-    pub lines: u8,
-    pub word: u32,
+    pub answer: Answer,
 }
 
 // One record by value, its reply from place `written` of the reply space on. A place past the space counts as its end.
@@ -158,94 +131,82 @@ pub fn replay_record(
     ensures { lent.RecordTaken (lent.record_in c.old script.now place replies.old written) written replies.old result c.new replies.new }
 {
     let s = replayed_at(*c, script, place, replies, written);
-    if s.bank == 28 {
-        *c = with_core(*c, s.core);
-    } else {
-        *c = with_bank_word(*c, s.core, s.bank, s.value);
-    }
+    store(c, s.core, s.banks);
     Recorded {
         place: s.place,
         ended: s.ended,
-        code: s.code,
-        lines: s.lines,
-        word: s.word,
+        answer: s.answer,
     }
 }
 
 // ---- a whole script
 
-// How far a replay has come, beside the controller.
+// How far a replay has come, beside the controller: what the last record gave, how many gave a step, and how many bytes of
+// replies are written.
 #[derive(Clone, Copy)]
 pub struct Progress {
-    pub place: usize,
+    pub last: Recorded,
     pub records: usize,
     pub written: usize,
-    pub ended: bool,
-    pub code: u8,
-    pub lines: u8,
-    pub word: u32,
-    pub going: bool,
 }
 
-fn begun() -> Progress
-    ensures { result ≡ lent.begun }
-{
-    Progress {
-        place: 0,
-        records: 0,
-        written: 0,
-        ended: false,
-        code: 0,
-        lines: 0,
-        word: 0,
-        going: true,
+impl Progress {
+    fn begun() -> Self
+        ensures { result ≡ lent.begun }
+    {
+        Progress {
+            last: Recorded {
+                place: 0,
+                ended: false,
+                answer: Answer {
+                    code: 0,
+                    lines: 0,
+                    word: 0,
+                },
+            },
+            records: 0,
+            written: 0,
+        }
     }
-}
 
-// One record more.
-fn progressed(p: Progress, r: Recorded) -> Progress
-    requires { (p.records + 1 < 2 ^ 64) × (p.written + lent.reply_bytes r.ended r.code < 2 ^ 64) }
-    ensures { result ≡ lent.progressed p r }
-{
-    if script::stops(r.ended, r.code) {
-        let written = p.written + script::reply_length(r.ended, r.code);
-        return Progress {
-            place: r.place,
-            records: p.records,
-            written: written,
-            ended: r.ended,
-            code: r.code,
-            lines: r.lines,
-            word: r.word,
-            going: false,
-        };
+    fn is_over(self) -> bool
+        ensures { result ≡ lent.is_over self }
+    {
+        script::stops(self.last.ended, self.last.answer.code)
     }
-    let records = p.records + 1;
-    let more = p.written + 9;
-    Progress {
-        place: r.place,
-        records: records,
-        written: more,
-        ended: r.ended,
-        code: r.code,
-        lines: r.lines,
-        word: r.word,
-        going: true,
-    }
-}
 
-fn finished(c: Controller, p: Progress) -> Replay
-    ensures { result ≡ lent.finished c p }
-{
-    Replay {
-        controller: c,
-        place: p.place,
-        records: p.records,
-        written: p.written,
-        ended: p.ended,
-        code: p.code,
-        lines: p.lines,
-        word: p.word,
+    // One record more.
+    fn and(self, last: Recorded) -> Self
+        requires { (self.records + 1 < 2 ^ 64) × (self.written + lent.reply_bytes last.ended last.answer.code < 2 ^ 64) }
+        ensures { result ≡ lent.progressed self last }
+    {
+        let Recorded { ended, answer, .. } = last;
+        Progress {
+            last,
+            records: self.records + usize::from(!script::stops(ended, answer.code)),
+            written: self.written + script::reply_length(ended, answer.code),
+        }
+    }
+
+    fn finished(self, controller: Controller) -> Replay
+        ensures { result ≡ lent.finished controller self }
+    {
+        let Recorded {
+            place,
+            ended,
+            answer,
+        } = self.last;
+        let Answer { code, lines, word } = answer;
+        Replay {
+            controller,
+            place,
+            records: self.records,
+            written: self.written,
+            ended,
+            code,
+            lines,
+            word,
+        }
     }
 }
 
@@ -254,10 +215,10 @@ pub fn replay(start: Controller, script: &[u8], replies: &mut [u8]) -> Replay
     ensures { (result ≡ (scripts.replay start script.now (length replies.old)).result) × (replies.new ≡ scripts.overwritten (scripts.replay start script.now (length replies.old)).replies replies.old) }
 {
     let mut c = start;
-    let mut p = begun();
-    while p.going {
-        let r = replay_record(&mut c, script, p.place, replies, p.written);
-        p = progressed(p, r);
+    let mut p = Progress::begun();
+    while !p.is_over() {
+        let r = replay_record(&mut c, script, p.last.place, replies, p.written);
+        p = p.and(r);
     }
-    finished(c, p)
+    p.finished(c)
 }

@@ -6,21 +6,22 @@ ghost use Rattle.model.specs.Registers as map;
 ghost use Rattle.model.specs.Step as stepping;
 ghost use Rattle.controller.specs.After as after;
 
-use model::{ByMailbox, Control, Controller, Core, Errors, Filters, Step, Stepped, Transmit};
-
-mod same; // same.rt: the core field by field
+use model::{
+    Answer, ByMailbox, Control, Controller, Core, Errors, Filters, Mode, Refusal, Step, Stepped,
+    Transmit,
+};
+use writes::BankWrite;
 
 // ---- hardware reset
 
+#[tactic(auto, unfolding(model::specs::Registers::reset))]
 fn core_reset() -> Core
     ensures { result ≡ (map.reset).core }
 {
     let x = mailboxes::empty_mailbox();
     let q = receive::empty_fifo();
-    let n = queue::no_requests();
-    let k = control::control_reset();
     Core {
-        control: k,
+        control: control::control_reset(),
         errors: Errors {
             tec: 0,
             rec: 0,
@@ -32,7 +33,7 @@ fn core_reset() -> Core
                 m1: x,
                 m2: x,
             },
-            queue: n,
+            queue: queue::no_requests(),
         },
         fifo0: q,
         fifo1: q,
@@ -46,6 +47,7 @@ fn core_reset() -> Core
     }
 }
 
+#[tactic(auto, unfolding(model::specs::Registers::reset))]
 pub fn reset() -> Controller
     ensures { result ≡ map.reset }
 {
@@ -57,142 +59,100 @@ pub fn reset() -> Controller
 
 // ---- what a step does, before the mode rule
 
-// The core, the code and the word, and the place and the value of the bank word that is written: at place 28 none is, at 29 all
-// become 0.
+// What a step does: the core, the word or the refusal, and what becomes of the words of the banks.
 #[derive(Clone, Copy)]
 pub struct Effect {
     pub core: Core,
-    pub code: u8,
-    pub word: u32,
-    pub place: u32,
-    pub value: u32,
+    pub answer: Result<u32, Refusal>,
+    pub banks: BankWrite,
 }
 
-fn refused(c: Core, code: u8) -> Effect
-    ensures { result ≡ after.refused c code }
-{
-    Effect {
-        core: c,
-        code: code,
-        word: 0,
-        place: 28,
-        value: 0,
+impl Effect {
+    // Of a step that has no word and writes no bank.
+    fn on_core(core: Core) -> Self
+        ensures { result ≡ after.on_core core }
+    {
+        Effect {
+            core,
+            answer: Ok(0),
+            banks: BankWrite::Nothing,
+        }
+    }
+
+    fn refused(core: Core, refusal: Refusal) -> Self
+        ensures { result ≡ after.not_done core refusal }
+    {
+        Effect {
+            core,
+            answer: Err(refusal),
+            banks: BankWrite::Nothing,
+        }
     }
 }
 
-fn done(c: Core) -> Effect
-    ensures { result ≡ after.done c 0 28 0 }
-{
-    Effect {
-        core: c,
-        code: 0,
-        word: 0,
-        place: 28,
-        value: 0,
-    }
-}
-
-// One function, by the kind of step first: each step is then one way through the code. The arms as functions of their own, with the
-// core in and out, cost 46 instructions in every step.
+// One function, by the kind of step first: each step is then one way through the code. The core comes back beside the refusal, and not in
+// a Result with `?`: that took 661 instructions for a register access, this takes 385.
+#[tactic(auto, using(model::proofs::RefusalNumbers::refused), unfolding(crate::specs::After::effect, crate::specs::After::effect_at, crate::specs::After::write_after, model::specs::Step::refusal, model::specs::Step::applied, model::specs::Step::word_of))]
 fn effect_of(c: Core, banks: [u32; 28], e: Step) -> Effect
-    ensures { result ≡ after.effect c banks e }
+    ensures { after.numbered result ≡ after.effect c banks e }
 {
     match e {
         Step::Reset => Effect {
-            core: core_reset(),
-            code: 0,
-            word: 0,
-            place: 29,
-            value: 0,
+            banks: BankWrite::Clear,
+            ..Effect::on_core(core_reset())
         },
-        Step::Read(o) => {
-            let r = reads::read_at(o, c, banks);
-            Effect {
-                core: c,
-                code: r.code,
-                word: r.word,
-                place: 28,
-                value: 0,
-            }
-        }
+        Step::Read(o) => Effect {
+            answer: reads::read_at(o, c, banks),
+            ..Effect::on_core(c)
+        },
         Step::Write(o, w) => {
             let x = registers::register_at(o);
-            let code = refusals::write_refusal(x, c);
-            if code == 0 {
-                Effect {
-                    core: writes::written(x, c, w),
-                    code: 0,
-                    word: 0,
-                    place: writes::bank_place(x),
-                    value: w,
-                }
-            } else {
-                refused(c, code)
+            match refusals::write_refusal(x, c) {
+                Ok(()) => Effect {
+                    banks: writes::bank_write(x, w),
+                    ..Effect::on_core(writes::written(x, c, w))
+                },
+                Err(refusal) => Effect::refused(c, refusal),
             }
         }
         Step::Idle => {
             if refusals::is_free(c) {
-                done(events::idle(c))
+                Effect::on_core(events::idle(c))
             } else {
-                refused(c, 4)
+                Effect::refused(c, Refusal::NotNow)
             }
         }
-        Step::BitTimes(n) => {
-            if n == 0 {
-                refused(c, 5)
-            } else {
-                done(events::bit_times(c, n))
-            }
-        }
+        Step::BitTimes(0) => Effect::refused(c, Refusal::OutOfRange),
+        Step::BitTimes(n) => Effect::on_core(events::bit_times(c, n)),
         Step::Activity => {
-            let k = c.control;
-            let m = k.mode;
-            if control::is_sleep(m) {
-                done(events::activity(c))
+            if c.control.mode == Mode::Sleep {
+                Effect::on_core(events::activity(c))
             } else {
-                refused(c, 4)
+                Effect::refused(c, Refusal::NotNow)
             }
         }
         Step::Start => {
             if refusals::may_start(c) {
-                let word = reads::start_word(c);
                 Effect {
-                    core: events::start(c),
-                    code: 0,
-                    word: word,
-                    place: 28,
-                    value: 0,
+                    answer: Ok(reads::start_word(c)),
+                    ..Effect::on_core(events::start(c))
                 }
             } else {
-                refused(c, 4)
+                Effect::refused(c, Refusal::NotNow)
             }
         }
-        Step::Outcome(r) => {
-            let code = refusals::outcome_refusal(c, r);
-            if code == 0 {
-                let v = banks;
-                done(events::outcome(c, &v, r))
-            } else {
-                refused(c, code)
-            }
-        }
-        Step::Receive(x) => {
-            let code = refusals::frame_refusal(c, x);
-            if code == 0 {
-                let v = banks;
-                done(events::frame_received(c, &v, x))
-            } else {
-                refused(c, code)
-            }
-        }
-        Step::ReceiveError(k, n) => {
-            let code = refusals::receive_error_refusal(c, k, n);
-            if code == 0 {
-                done(events::receive_error(c, k, n))
-            } else {
-                refused(c, code)
-            }
-        }
+        Step::Outcome(r) => match refusals::outcome_refusal(c, r) {
+            Ok(()) => Effect::on_core(events::outcome(c, &banks, r)),
+            Err(refusal) => Effect::refused(c, refusal),
+        },
+        Step::Receive(x) => match refusals::frame_refusal(c, x) {
+            Ok(()) => Effect::on_core(events::frame_received(c, &banks, x)),
+            Err(refusal) => Effect::refused(c, refusal),
+        },
+        Step::ReceiveError(k, n) => match refusals::receive_error_refusal(c, k, n) {
+            Ok(()) => Effect::on_core(events::receive_error(c, k, n)),
+            Err(refusal) => Effect::refused(c, refusal),
+        },
     }
 }
 
@@ -202,36 +162,33 @@ fn effect_of(c: Core, banks: [u32; 28], e: Step) -> Effect
 fn settled_if(ok: bool, c: Core) -> Control
     ensures { result ≡ after.settled_if ok c }
 {
-    let k = c.control;
-    control::settled(k, ok & refusals::is_free(c), control::boff(c.errors))
+    // Not `&&`: one way through the code, in every step.
+    control::settled(c.control, ok & refusals::is_free(c), control::boff(c.errors))
 }
 
-// What a step gives but for the banks' words: these by the place and the value of the one that is written.
+// What a step gives, the words of the banks by what it does to them.
 #[derive(Clone, Copy)]
 pub struct CoreStepped {
     pub core: Core,
-    pub code: u8,
-    pub lines: u8,
-    pub word: u32,
-    pub place: u32,
-    pub value: u32,
+    pub answer: Answer,
+    pub banks: BankWrite,
 }
 
 pub fn core_step(c: Core, banks: [u32; 28], e: Step) -> CoreStepped
     ensures { result ≡ after.core_step c banks e }
 {
-    let a = effect_of(same::core(c), banks, e);
-    let mut d = a.core;
-    let k = settled_if(a.code == 0, d);
-    d.control = k;
-    let lines = reads::lines_of(d);
+    let a = effect_of(c, banks, e);
+    let mut core = a.core;
+    core.control = settled_if(a.answer.is_ok(), core);
+    let lines = reads::lines_of(core);
+    let (code, word) = match a.answer {
+        Ok(word) => (0, word),
+        Err(refusal) => (u8::from(refusal), 0),
+    };
     CoreStepped {
-        core: d,
-        code: a.code,
-        lines: lines,
-        word: a.word,
-        place: a.place,
-        value: a.value,
+        core,
+        answer: Answer { code, lines, word },
+        banks: a.banks,
     }
 }
 
@@ -239,15 +196,19 @@ pub fn core_step(c: Core, banks: [u32; 28], e: Step) -> CoreStepped
 pub fn step(z: Controller, e: Step) -> Stepped
     ensures { result ≡ stepping.step z e }
 {
-    let c = z.core;
-    let banks = z.banks;
-    let s = core_step(c, banks, e);
-    let d = s.core;
-    let v = writes::banks_after(banks, s.place, s.value);
+    let CoreStepped {
+        core,
+        answer,
+        banks,
+    } = core_step(z.core, z.banks, e);
+    let Answer { code, lines, word } = answer;
     Stepped {
-        controller: Controller { core: d, banks: v },
-        code: s.code,
-        lines: s.lines,
-        word: s.word,
+        controller: Controller {
+            core,
+            banks: writes::banks_after(z.banks, banks),
+        },
+        code,
+        lines,
+        word,
     }
 }

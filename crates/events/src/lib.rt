@@ -3,121 +3,117 @@
 
 ghost use Rattle.std.specs.Prelude.{◌≡◌, [], ◌/◌};
 ghost use Rattle.model.specs.Reception as reception;
+ghost use Rattle.model.specs.Registers as map;
+ghost use Rattle.model.specs.Search as search;
 ghost use Rattle.model.specs.Step as stepping;
 ghost use Rattle.model.specs.declared.Step.TheVariants as steps;
 
-use model::{Core, Errors, Fifo, FilterNumber, Frame, Mailbox, MailboxState, StoredFrame};
+use model::{Core, Fifo, Filters, FilterNumber, Frame, Mailbox, MailboxState, StoredFrame};
 
 // ---- idle, bit times, activity, receive errors
 
+#[tactic(auto, unfolding(model::specs::Step::applied))]
 pub fn idle(c: Core) -> Core
     ensures { result ≡ stepping.applied c [] steps.Idle }
 {
-    let mut d = c;
-    d.control = control::idled(c.control, c.errors);
-    d.errors = control::idle_errors(c.control, c.errors);
-    d
+    Core {
+        control: control::idled(c.control, c.errors),
+        errors: control::idle_errors(c.control, c.errors),
+        ..c
+    }
 }
 
+#[tactic(auto, unfolding(model::specs::Step::applied))]
 pub fn bit_times(c: Core, n: u16) -> Core
     ensures { result ≡ stepping.applied c [] (steps.BitTimes n) }
 {
-    let mut d = c;
-    d.control = control::ticked(c.control, n);
-    d
+    Core {
+        control: control::ticked(c.control, n),
+        ..c
+    }
 }
 
+#[tactic(auto, unfolding(model::specs::Step::applied))]
 pub fn activity(c: Core) -> Core
     ensures { result ≡ stepping.applied c [] steps.Activity }
 {
-    let mut d = c;
-    d.control = control::woken(c.control);
-    d
+    Core {
+        control: control::woken(c.control),
+        ..c
+    }
 }
 
+#[tactic(auto, unfolding(model::specs::Step::applied))]
 pub fn receive_error(c: Core, code: u8, by: u8) -> Core
     ensures { result ≡ stepping.applied c [] (steps.ReceiveError code by) }
 {
-    let e = control::receive_error_counters(c.errors, code, by);
-    let mut d = c;
-    d.control = control::errors_changed(c.control, c.errors, e, true);
-    let f = Errors {
-        tec: e.tec,
-        rec: e.rec,
-        lec: e.lec,
-    };
-    d.errors = f;
-    d
+    let errors = control::receive_error_counters(c.errors, code, by);
+    Core {
+        control: control::errors_changed(c.control, c.errors, errors, true),
+        errors,
+        ..c
+    }
 }
 
 // ---- a start
 
 // The first in priority goes on the wire.
+#[tactic(auto, unfolding(model::specs::Step::applied, model::specs::Step::started_by))]
 pub fn start(c: Core) -> Core
     ensures { result ≡ stepping.applied c [] steps.Start }
 {
-    let k = c.control;
     let t = c.transmit;
-    let q = t.queue;
-    let o = q.order;
     let i = priority::identifiers(t.mailboxes);
-    let s = priority::first(control::txfp(k), i, o);
-    let mut d = c;
-    d.errors = control::same_errors(c.errors);
-    match s {
-        None => d,
-        Some(m) => {
-            d.transmit = mailboxes::wire::started(t, m, k.timer);
-            d
-        }
+    match priority::first(control::txfp(c.control), i, t.queue.order) {
+        None => c,
+        Some(m) => Core {
+            transmit: mailboxes::wire::started(t, m, c.control.timer),
+            ..c
+        },
     }
 }
 
 // ---- a frame received
 
-pub fn frame_received(c: Core, banks: &[u32; 28], x: Frame) -> Core
-    ensures { result ≡ stepping.applied c banks.now (steps.Receive x) }
+// Where the filters say that a frame with this identifier goes.
+fn accepted(g: Filters, banks: &[u32; 28], identifier: u32) -> Option<(Fifo, FilterNumber)>
+    ensures { result ≡ search.acceptance map.bank_count g banks.now identifier }
 {
-    let k = c.control;
-    let g = c.filters;
-    let v = filter::winner(
+    filter::accepted_by(filter::winner(
         g.mode,
         g.scale,
         g.assignment,
         g.activation,
         banks,
-        x.identifier,
-    );
-    let a = filter::accepted_by(v);
-    let y = receive::stored_frame(x, receive::fmi_of(a), k.timer);
-    let locked = control::rflm(k);
-    let mut d = c;
-    d.errors = control::received_errors(c.errors);
-    d.fifo0 = receive::received(Fifo::F0, a, y, locked, c.fifo0);
-    d.fifo1 = receive::received(Fifo::F1, a, y, locked, c.fifo1);
-    d
+        identifier,
+    ))
+}
+
+#[tactic(auto, unfolding(model::specs::Step::applied, model::specs::Step::stored_by))]
+pub fn frame_received(c: Core, banks: &[u32; 28], x: Frame) -> Core
+    ensures { result ≡ stepping.applied c banks.now (steps.Receive x) }
+{
+    let a = accepted(c.filters, banks, x.identifier);
+    let y = receive::stored_frame(x, receive::fmi_of(a), c.control.timer);
+    let locked = control::rflm(c.control);
+    Core {
+        errors: control::received_errors(c.errors),
+        fifo0: receive::received(Fifo::F0, a, y, locked, c.fifo0),
+        fifo1: receive::received(Fifo::F1, a, y, locked, c.fifo1),
+        ..c
+    }
 }
 
 // ---- the end of the frame on the wire
 
 // Loopback: where the good frame of a mailbox goes.
+#[tactic(auto, unfolding(model::specs::Step::looped_back))]
 fn looped_back(c: Core, banks: &[u32; 28], m: Mailbox, r: u8) -> Option<(Fifo, FilterNumber)>
     ensures { result ≡ stepping.looped_back c banks.now m r }
 {
-    let k = c.control;
-    let g = c.filters;
-    if (r == 0) & control::lbkm(k) & !g.finit {
-        let b = c.transmit.mailboxes;
-        let x = receive::sent_frame(mailboxes::at(b, m));
-        let v = filter::winner(
-            g.mode,
-            g.scale,
-            g.assignment,
-            g.activation,
-            banks,
-            x.identifier,
-        );
-        return filter::accepted_by(v);
+    if r == 0 && control::lbkm(c.control) && !c.filters.finit {
+        let x = receive::sent_frame(queue::at(c.transmit.mailboxes, m));
+        return accepted(c.filters, banks, x.identifier);
     }
     None
 }
@@ -130,34 +126,24 @@ fn looped_frame(x: MailboxState, a: Option<(Fifo, FilterNumber)>) -> StoredFrame
     receive::stored_frame(receive::sent_frame(x), receive::fmi_of(a), time)
 }
 
+#[tactic(auto, unfolding(model::specs::Step::applied, model::specs::Step::ended_by, model::specs::Step::stored_by))]
 pub fn outcome(c: Core, banks: &[u32; 28], res: u8) -> Core
     ensures { result ≡ stepping.applied c banks.now (steps.Outcome res) }
 {
+    let Some(m) = c.transmit.queue.transmitting else {
+        return c;
+    };
     let k = c.control;
-    let t = c.transmit;
-    let q = t.queue;
-    let s = q.transmitting;
-    let mut d = c;
-    match s {
-        None => d,
-        Some(m) => {
-            let b = t.mailboxes;
-            let x = mailboxes::at(b, m);
-            let a = looped_back(c, banks, m, res);
-            let y = looped_frame(x, a);
-            let locked = control::rflm(k);
-            let e = control::outcome_errors(c.errors, res);
-            d.control = control::errors_changed(k, c.errors, e, (res != 0) & (res != 7));
-            let f = Errors {
-                tec: e.tec,
-                rec: e.rec,
-                lec: e.lec,
-            };
-            d.errors = f;
-            d.transmit = mailboxes::wire::ended(t, m, res, control::nart(k));
-            d.fifo0 = receive::received(Fifo::F0, a, y, locked, c.fifo0);
-            d.fifo1 = receive::received(Fifo::F1, a, y, locked, c.fifo1);
-            d
-        }
+    let a = looped_back(c, banks, m, res);
+    let y = looped_frame(queue::at(c.transmit.mailboxes, m), a);
+    let locked = control::rflm(k);
+    let errors = control::outcome_errors(c.errors, res);
+    Core {
+        control: control::errors_changed(k, c.errors, errors, !matches!(res, 0 | 7)),
+        errors,
+        transmit: mailboxes::wire::ended(c.transmit, m, res, control::nart(k)),
+        fifo0: receive::received(Fifo::F0, a, y, locked, c.fifo0),
+        fifo1: receive::received(Fifo::F1, a, y, locked, c.fifo1),
+        ..c
     }
 }

@@ -3,102 +3,85 @@
 #![tactic(auto)]
 
 ghost use Rattle.std.specs.Prelude.{◌≡◌};
+ghost use Rattle.std.specs.Fn.{FnOnceReturnsAtMut};
+ghost use Rattle.model.specs.Replies as replies;
 ghost use Rattle.model.specs.Step as stepping;
 ghost use Rattle.model.specs.declared.Step.TheVariants as steps;
-ghost use Rattle.lent.specs.Parts as parts;
 
 use model::{Answer, Controller, Frame, Stepped};
 
-// The controller that was lent, and the answer.
-fn stepped(c: Controller, a: Answer) -> Stepped
-    ensures { result ≡ parts.stepped c a }
+// A call that is lent a copy of the controller: what became of the copy, and the answer.
+fn on_lent<F: FnOnce(&mut Controller) -> Answer>(mut z: Controller, call: F) -> Stepped
+    requires { F.IsAlwaysCallable call }
+    ensures { FnOnceReturnsAtMut F.FnOnce call z (replies.answer_of result) result.controller }
 {
+    let Answer { code, lines, word } = call(&mut z);
     Stepped {
-        controller: c,
-        code: a.code,
-        lines: a.lines,
-        word: a.word,
+        controller: z,
+        code,
+        lines,
+        word,
     }
 }
 
 pub fn hardware_reset(z: Controller) -> Stepped
     ensures { result ≡ stepping.step z steps.Reset }
 {
-    let mut c = z;
-    let a = bench::hardware_reset(&mut c);
-    stepped(c, a)
+    on_lent(z, bench::hardware_reset)
 }
 
 pub fn read(z: Controller, offset: u16) -> Stepped
     ensures { result ≡ stepping.step z (steps.Read offset) }
 {
-    let mut c = z;
-    let a = bench::read(&mut c, offset);
-    stepped(c, a)
+    on_lent(z, |c| bench::read(c, offset))
 }
 
 pub fn write(z: Controller, offset: u16, word: u32) -> Stepped
     ensures { result ≡ stepping.step z (steps.Write offset word) }
 {
-    let mut c = z;
-    let a = bench::write(&mut c, offset, word);
-    stepped(c, a)
+    on_lent(z, |c| bench::write(c, offset, word))
 }
 
 // 11 recessive bits.
 pub fn idle(z: Controller) -> Stepped
     ensures { result ≡ stepping.step z steps.Idle }
 {
-    let mut c = z;
-    let a = bench::idle(&mut c);
-    stepped(c, a)
+    on_lent(z, bench::idle)
 }
 
 pub fn bit_times(z: Controller, n: u16) -> Stepped
     ensures { result ≡ stepping.step z (steps.BitTimes n) }
 {
-    let mut c = z;
-    let a = bench::bit_times(&mut c, n);
-    stepped(c, a)
+    on_lent(z, |c| bench::bit_times(c, n))
 }
 
 pub fn activity(z: Controller) -> Stepped
     ensures { result ≡ stepping.step z steps.Activity }
 {
-    let mut c = z;
-    let a = bench::activity(&mut c);
-    stepped(c, a)
+    on_lent(z, bench::activity)
 }
 
 pub fn start(z: Controller) -> Stepped
     ensures { result ≡ stepping.step z steps.Start }
 {
-    let mut c = z;
-    let a = bench::start(&mut c);
-    stepped(c, a)
+    on_lent(z, bench::start)
 }
 
 // The end of the frame on the wire: 0 good, 1 to 6 an error code, 7 arbitration lost, 8 no acknowledgment while error passive.
 pub fn outcome(z: Controller, res: u8) -> Stepped
     ensures { result ≡ stepping.step z (steps.Outcome res) }
 {
-    let mut c = z;
-    let a = bench::outcome(&mut c, res);
-    stepped(c, a)
+    on_lent(z, |c| bench::outcome(c, res))
 }
 
 pub fn frame_received(z: Controller, x: Frame) -> Stepped
     ensures { result ≡ stepping.step z (steps.Receive x) }
 {
-    let mut c = z;
-    let a = bench::frame_received(&mut c, x);
-    stepped(c, a)
+    on_lent(z, |c| bench::frame_received(c, x))
 }
 
 pub fn receive_error(z: Controller, code: u8, by: u8) -> Stepped
     ensures { result ≡ stepping.step z (steps.ReceiveError code by) }
 {
-    let mut c = z;
-    let a = bench::receive_error(&mut c, code, by);
-    stepped(c, a)
+    on_lent(z, |c| bench::receive_error(c, code, by))
 }

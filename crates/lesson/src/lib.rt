@@ -7,7 +7,7 @@ ghost use Rattle.model.specs.Script as scripts;
 ghost use Rattle.script.specs.OneWay as way;
 ghost use Rattle.lesson.specs.Turns as turns;
 
-use model::{Controller, Replay, Replayed};
+use model::{Answer, Controller, Replay, Replayed};
 use pieces::{Position, Turn};
 use script::CoreReplayed;
 use writer::OPENING;
@@ -16,10 +16,7 @@ use writer::OPENING;
 pub fn opens(lesson: &[u8]) -> bool
     ensures { result ≡ lessons.opens lesson.now }
 {
-    if lesson.len() < 3 {
-        return false;
-    }
-    (lesson[0] == OPENING[0]) & (lesson[1] == OPENING[1]) & (lesson[2] == OPENING[2])
+    lesson.starts_with(&OPENING)
 }
 
 // Another opening: 11 with its reply, or 9 where there is no space for that. The controller and the place stay.
@@ -27,15 +24,13 @@ fn refused(z: Controller, place: usize, reply: &mut [u8]) -> Replayed
     ensures value { result ≡ lessons.refused_opening z place (length reply.old) }
     ensures reply_after { reply.new ≡ scripts.overwritten (scripts.reply_of result) reply.old }
 {
-    let c = z.core;
-    let lines = reads::lines_of(c);
-    let code = script::refuse_opening(reply, lines);
+    let lines = reads::lines_of(z.core);
     Replayed {
         controller: z,
-        place: place,
+        place,
         ended: false,
-        code: code,
-        lines: lines,
+        code: script::refuse_opening(reply, lines),
+        lines,
         word: 0,
     }
 }
@@ -45,20 +40,17 @@ fn refused(z: Controller, place: usize, reply: &mut [u8]) -> Replayed
 fn with_banks(z: Controller, a: CoreReplayed) -> Replayed
     ensures { result ≡ way.whole z a }
 {
-    let core = a.core;
-    let before = z.banks;
-    let banks = writes::banks_after(before, a.bank, a.value);
-    let next = Controller {
-        core: core,
-        banks: banks,
-    };
+    let Answer { code, lines, word } = a.answer;
     Replayed {
-        controller: next,
+        controller: Controller {
+            core: a.core,
+            banks: writes::banks_after(z.banks, a.banks),
+        },
         place: a.place,
         ended: a.ended,
-        code: a.code,
-        lines: a.lines,
-        word: a.word,
+        code,
+        lines,
+        word,
     }
 }
 
@@ -78,7 +70,7 @@ pub fn record(z: Controller, lesson: &[u8], place: usize, reply: &mut [u8]) -> R
 pub fn stops(ended: bool, code: u8) -> bool
     ensures { result ≡ lessons.lesson_stops ended code }
 {
-    script::stops(ended, code) | (code == 11)
+    script::stops(ended, code) || code == 11
 }
 
 // ---- a whole lesson
@@ -86,9 +78,8 @@ pub fn stops(ended: bool, code: u8) -> bool
 fn ends_with(a: Replayed) -> Replay
     ensures { result ≡ (lessons.ends_with a).result }
 {
-    let z = a.controller;
     Replay {
-        controller: z,
+        controller: a.controller,
         place: a.place,
         records: 0,
         written: script::reply_length(a.ended, a.code),
@@ -128,7 +119,7 @@ fn refused_turn(k: Position, code: u8) -> Turn
         sent: script::reply_length(false, code),
         going: false,
         ended: false,
-        code: code,
+        code,
     }
 }
 
@@ -144,15 +135,14 @@ pub fn replay_piece(
 ) -> LessonTurn
     ensures { turns.Taken k opened piece.now last replies.old result replies.new }
 {
+    // Not `||`, which has the piece replayed at two places of the code.
     if (opened | opens(piece)) | (!last & (piece.len() < 3)) {
-        let t = pieces::replay_piece(k, piece, last, replies);
         return LessonTurn {
-            turn: t,
+            turn: pieces::replay_piece(k, piece, last, replies),
             opened: opened | opens(piece),
         };
     }
-    let z = k.controller;
-    let a = refused(z, 0, replies);
+    let a = refused(k.controller, 0, replies);
     LessonTurn {
         turn: refused_turn(k, a.code),
         opened: false,

@@ -44,7 +44,7 @@ pub fn begun(z: Controller) -> Position
 fn goes_on(last: bool, ended: bool, code: u8) -> bool
     ensures { result ≡ turns.goes last ended code }
 {
-    !last & (ended | (code == 6))
+    !last && (ended || code == 6)
 }
 
 // How many bytes of replies are sent: where the replay goes on, the reply to the record at which it stopped is held back.
@@ -52,20 +52,16 @@ fn sent(going: bool, records: usize, written: usize) -> usize
     requires { 9 * records ≤ written }
     ensures { result ≡ base.pick going (9 * records) written }
 {
-    if going {
-        return 9 * records;
-    }
-    written
+    if going { 9 * records } else { written }
 }
 
 fn behind(k: Position, x: Replay) -> Position
     ensures { result ≡ turns.behind k x }
 {
-    let z = x.controller;
     Position {
-        controller: z,
-        records: std::num::wrapping_add_u64(k.records, x.records as u64),
-        bytes: std::num::wrapping_add_u64(k.bytes, x.place as u64),
+        controller: x.controller,
+        records: k.records.wrapping_add(x.records as u64),
+        bytes: k.bytes.wrapping_add(x.place as u64),
     }
 }
 
@@ -73,13 +69,12 @@ fn turned(k: Position, last: bool, x: Replay) -> Turn
     requires { 9 * x.records ≤ x.written }
     ensures { result ≡ turns.turned k last x }
 {
-    let p = behind(k, x);
     let going = goes_on(last, x.ended, x.code);
     Turn {
-        position: p,
+        position: behind(k, x),
         place: x.place,
         sent: sent(going, x.records, x.written),
-        going: going,
+        going,
         ended: x.ended,
         code: x.code,
     }
@@ -90,7 +85,5 @@ fn turned(k: Position, last: bool, x: Replay) -> Turn
 pub fn replay_piece(k: Position, piece: &[u8], last: bool, replies: &mut [u8]) -> Turn
     ensures { turns.Taken k piece.now last replies.old result replies.new }
 {
-    let z = k.controller;
-    let x = bench::replay(z, piece, replies);
-    turned(k, last, x)
+    turned(k, last, bench::replay(k.controller, piece, replies))
 }

@@ -1,132 +1,127 @@
-// The code of a step, worked out from the state before it: 0, or the number of the refusal.
+// Why a step is refused, worked out from the state before it.
 #![tactic(auto)]
 
 ghost use Rattle.std.specs.Prelude.{◌≡◌};
+ghost use Rattle.base.specs.Base as base;
+ghost use Rattle.model.specs.Refusals as numbers;
 ghost use Rattle.model.specs.Registers as map;
 ghost use Rattle.model.specs.Step as stepping;
 ghost use Rattle.model.specs.declared.Step.TheVariants as steps;
 
-use model::{Core, Frame, Mailbox, Register};
+use model::{Core, Frame, Mailbox, Mode, Refusal, Register};
 
 pub fn has_request(c: Core, m: Mailbox) -> bool
     ensures { result ≡ map.has_request c m }
 {
-    let q = c.transmit.queue;
-    let o = q.order;
-    queue::holds(o, m)
+    queue::holds(c.transmit.queue.order, m)
 }
 
-// Matched here: handed on to a function, the two bytes become one integer, which every step packs.
 pub fn is_free(c: Core) -> bool
     ensures { result ≡ map.is_free c }
 {
-    let q = c.transmit.queue;
-    let s = q.transmitting;
-    match s {
-        None => true,
-        Some(_) => false,
-    }
+    c.transmit.queue.transmitting.is_none()
 }
 
+#[tactic(auto, unfolding(model::specs::Step::may_start))]
 pub fn may_start(c: Core) -> bool
     ensures { result ≡ stepping.may_start c }
 {
-    let k = c.control;
-    let m = k.mode;
-    let q = c.transmit.queue;
-    let o = q.order;
-    control::is_normal(m)
-        & !control::boff(c.errors)
-        & is_free(c)
-        & !queue::is_empty(o)
-        & !(control::silm(k) & !control::lbkm(k))
+    c.control.mode == Mode::Normal
+        && !control::boff(c.errors)
+        && is_free(c)
+        && !queue::is_empty(c.transmit.queue.order)
+        && !(control::silm(c.control) && !control::lbkm(c.control))
 }
 
+#[tactic(auto, unfolding(model::specs::Step::may_end))]
 pub fn may_end(c: Core, r: u8) -> bool
     ensures { result ≡ stepping.may_end c r }
 {
-    let k = c.control;
     !is_free(c)
-        & !(((r == 3) | (r == 8)) & control::lbkm(k))
-        & !((r == 8) & !control::epvf(c.errors))
+        && !(matches!(r, 3 | 8) && control::lbkm(c.control))
+        && !(r == 8 && !control::epvf(c.errors))
 }
 
+#[tactic(auto, unfolding(model::specs::Step::may_receive))]
 pub fn may_receive(c: Core) -> bool
     ensures { result ≡ stepping.may_receive c }
 {
-    let k = c.control;
-    let m = k.mode;
-    let g = c.filters;
-    control::is_normal(m) & !control::boff(c.errors) & is_free(c) & !control::lbkm(k) & !g.finit
+    c.control.mode == Mode::Normal
+        && !control::boff(c.errors)
+        && is_free(c)
+        && !control::lbkm(c.control)
+        && !c.filters.finit
 }
 
+#[tactic(auto, unfolding(model::specs::Step::receive_error_in_range))]
 pub fn receive_error_in_range(k: u8, n: u8) -> bool
     ensures { result ≡ stepping.receive_error_in_range k n }
 {
-    (1 <= k) & (k <= 6) & ((n == 1) | (n == 8))
+    matches!(k, 1..=6) && matches!(n, 1 | 8)
 }
 
-// Codes 1, 3 and 2 of a write.
-pub fn write_refusal(g: Register, c: Core) -> u8
-    ensures { result ≡ map.write_refusal g c }
+#[tactic(auto, unfolding(model::specs::Registers::write_refusal))]
+pub fn write_refusal(g: Register, c: Core) -> Result<(), Refusal>
+    ensures { numbers.code_of result ≡ map.write_refusal g c }
 {
-    let f = c.filters;
     match g {
-        Register::Mcr => 0,
-        Register::Msr => 0,
-        Register::Tsr => 0,
-        Register::Rfr(_) => 0,
-        Register::Ier => 0,
-        Register::Esr => 0,
-        Register::Btr => {
-            let k = c.control;
-            let m = k.mode;
-            bits::pick(control::is_initialization(m), 0, 2)
+        Register::Btr if c.control.mode != Mode::Initialization => Err(Refusal::NotWritable),
+        Register::Ti(m) | Register::Tdt(m) | Register::Tdl(m) | Register::Tdh(m)
+            if has_request(c, m) =>
+        {
+            Err(Refusal::NotWritable)
         }
-        Register::Ti(m) => bits::pick(has_request(c, m), 2, 0),
-        Register::Tdt(m) => bits::pick(has_request(c, m), 2, 0),
-        Register::Tdl(m) => bits::pick(has_request(c, m), 2, 0),
-        Register::Tdh(m) => bits::pick(has_request(c, m), 2, 0),
-        Register::Ri(_) => 3,
-        Register::Rdt(_) => 3,
-        Register::Rdl(_) => 3,
-        Register::Rdh(_) => 3,
-        Register::Fmr => 0,
-        Register::Fm1r => bits::pick(f.finit, 0, 2),
-        Register::Fs1r => bits::pick(f.finit, 0, 2),
-        Register::Ffa1r => bits::pick(f.finit, 0, 2),
-        Register::Fa1r => 0,
-        Register::R1(b) => bits::pick(!f.finit & bits::bit(b.0, f.activation), 2, 0),
-        Register::R2(b) => bits::pick(!f.finit & bits::bit(b.0, f.activation), 2, 0),
-        Register::Absent => 1,
+        Register::Ri(_) | Register::Rdt(_) | Register::Rdl(_) | Register::Rdh(_) => {
+            Err(Refusal::ReadOnly)
+        }
+        Register::Fm1r | Register::Fs1r | Register::Ffa1r if !c.filters.finit => {
+            Err(Refusal::NotWritable)
+        }
+        Register::R1(b) | Register::R2(b)
+            if !c.filters.finit && bits::bit(b.0, c.filters.activation) =>
+        {
+            Err(Refusal::NotWritable)
+        }
+        Register::Absent => Err(Refusal::NotMapped),
+        _ => Ok(()),
     }
 }
 
-// ---- the codes of the events that have more than one
+// ---- events
 
-pub fn outcome_refusal(c: Core, res: u8) -> u8
-    ensures { result ≡ stepping.refusal c (steps.Outcome res) }
+// An event that can't come now is refused.
+fn allowed(ok: bool) -> Result<(), Refusal>
+    ensures { numbers.code_of result ≡ base.pick ok 0 4 }
+{
+    if ok { Ok(()) } else { Err(Refusal::NotNow) }
+}
+
+#[tactic(auto, unfolding(model::specs::Step::refusal))]
+pub fn outcome_refusal(c: Core, res: u8) -> Result<(), Refusal>
+    ensures { numbers.code_of result ≡ stepping.refusal c (steps.Outcome res) }
 {
     if 8 < res {
-        return 5;
+        return Err(Refusal::OutOfRange);
     }
-    bits::pick(may_end(c, res), 0, 4)
+    allowed(may_end(c, res))
 }
 
-pub fn frame_refusal(c: Core, x: Frame) -> u8
-    ensures { result ≡ stepping.refusal c (steps.Receive x) }
+#[tactic(auto, unfolding(model::specs::Step::refusal))]
+pub fn frame_refusal(c: Core, x: Frame) -> Result<(), Refusal>
+    ensures { numbers.code_of result ≡ stepping.refusal c (steps.Receive x) }
 {
     if receive::malformed(x) {
-        return 5;
+        return Err(Refusal::OutOfRange);
     }
-    bits::pick(may_receive(c), 0, 4)
+    allowed(may_receive(c))
 }
 
-pub fn receive_error_refusal(c: Core, code: u8, by: u8) -> u8
-    ensures { result ≡ stepping.refusal c (steps.ReceiveError code by) }
+#[tactic(auto, unfolding(model::specs::Step::refusal))]
+pub fn receive_error_refusal(c: Core, code: u8, by: u8) -> Result<(), Refusal>
+    ensures { numbers.code_of result ≡ stepping.refusal c (steps.ReceiveError code by) }
 {
-    if receive_error_in_range(code, by) {
-        return bits::pick(may_receive(c), 0, 4);
+    if !receive_error_in_range(code, by) {
+        return Err(Refusal::OutOfRange);
     }
-    5
+    allowed(may_receive(c))
 }

@@ -1,4 +1,4 @@
--- Nine stores make a reply, and what is answered has space for them. Assumes nothing.
+-- What is answered has space for its reply.
 use Rattle.std.proofs.Common.{Some, None, Ok, Err}
 use mathlib.Core.Bool.{Bool, true, false, ◌||◌}
 use mathlib.Core.Path.{◌≡◌, refl}
@@ -12,23 +12,6 @@ use Rattle.base.specs.Base.{pick}
 use Rattle.script.specs.OneWay.{answerable, code_of, is_end}
 use Rattle.model.specs.Script.{Reading}
 use Rattle.model.specs.declared.Refusal.TheVariants.{NoSpace}
-
--- ---- nine stores from the front
-
-pub nine-sets : (l : List ℕ) (a b c d e f g h i : ℕ) → 9 ≤ length l
-    → set (set (set (set (set (set (set (set (set l 0 a) 1 b) 2 c) 3 d) 4 e) 5 f) 6 g) 7 h) 8 i ≡ a ∷ b ∷ c ∷ d ∷ e ∷ f ∷ g ∷ h ∷ i ∷ drop 9 l
-nine-sets [] a b c d e f g h i m = absurd (omega arith)
-nine-sets (_ ∷ []) a b c d e f g h i m = absurd (omega arith)
-nine-sets (_ ∷ _ ∷ []) a b c d e f g h i m = absurd (omega arith)
-nine-sets (_ ∷ _ ∷ _ ∷ []) a b c d e f g h i m = absurd (omega arith)
-nine-sets (_ ∷ _ ∷ _ ∷ _ ∷ []) a b c d e f g h i m = absurd (omega arith)
-nine-sets (_ ∷ _ ∷ _ ∷ _ ∷ _ ∷ []) a b c d e f g h i m = absurd (omega arith)
-nine-sets (_ ∷ _ ∷ _ ∷ _ ∷ _ ∷ _ ∷ []) a b c d e f g h i m = absurd (omega arith)
-nine-sets (_ ∷ _ ∷ _ ∷ _ ∷ _ ∷ _ ∷ _ ∷ []) a b c d e f g h i m = absurd (omega arith)
-nine-sets (_ ∷ _ ∷ _ ∷ _ ∷ _ ∷ _ ∷ _ ∷ _ ∷ []) a b c d e f g h i m = absurd (omega arith)
-nine-sets (_ ∷ _ ∷ _ ∷ _ ∷ _ ∷ _ ∷ _ ∷ _ ∷ _ ∷ l) a b c d e f g h i m = refl
-
--- ---- space for a reply
 
 module _ (space code : ℕ) where
   abbrev Unanswered : Reading → Bool

@@ -3,7 +3,8 @@
 use Rattle.std.specs.Prelude.{Bool, true, false, ◌≡◌, refl, List, ℕ, ltb, length, Some, None, Ok, Err}
 use Rattle.std.proofs.Common.{ap, sym, ◌∙◌}
 use Rattle.base.specs.Base.{pick}
-use Rattle.model.specs.Script.{reading, replayed, record_at}
+use Rattle.model.specs.Refusals as refusals
+use Rattle.model.specs.Script.{Reading, reading, replayed, record_at}
 use Rattle.model.specs.Step.{step, answered, refusal, core_after, banks_after, lines_of}
 use Rattle.model.specs.declared.Controller.{Controller}
 use Rattle.model.specs.declared.Replayed.{Replayed}
@@ -14,12 +15,11 @@ use Rattle.writes.specs.Places.{changed}
 use Rattle.controller.specs.After.{core_step, whole-step}
 use Rattle.controller.specs.declared.CoreStepped.{CoreStepped}
 use Rattle.script.specs.declared.CoreReplayed.{CoreReplayed}
-use Rattle.model.specs.Script.{Reading}
 use Rattle.model.specs.declared.Refusal.TheVariants.{NoSpace}
 
 -- without space for a reply, what was read can't be answered
 unfoldable pub answerable : Reading → ℕ → Reading
-answerable (Ok None) space = (Ok None)
+answerable (Ok None) space = Ok None
 answerable (Err k) space = pick (ltb space 9) (Err NoSpace) (Err k)
 answerable (Ok (Some (e, q))) space = pick (ltb space 9) (Err NoSpace) (Ok (Some (e, q)))
 
@@ -31,7 +31,7 @@ step_of (Ok (Some (e, q))) = e
 
 abbrev pub code_of : Reading → ℕ → ℕ
 code_of (Ok None) code = 0
-code_of (Err k) code = k
+code_of (Err r) code = refusals.code r
 code_of (Ok (Some (e, q))) code = code
 
 -- the place afterwards, from place p in a script of n bytes
@@ -68,7 +68,7 @@ one_way (Ok None) z n p space = rw (refused z)
 one_way (Err k) z n p space = go (ltb space 9)
   where
     go : (b : Bool)
-        → record { controller = z; place = p; ended = false; code = pick b 9 k; lines = lines_of z.core; word = 0 }
+        → record { controller = z; place = p; ended = false; code = pick b 9 (refusals.code k); lines = lines_of z.core; word = 0 }
         ≡ after (pick b (Err NoSpace) (Err k)) n p (step z (step_of (pick b (Err NoSpace) (Err k))))
     go true = rw (refused z)
     go false = rw (refused z)
@@ -94,11 +94,8 @@ after_core x n p a = record {
   core = a.core;
   place = place_of x n p;
   ended = is_end x;
-  code = code_of x a.code;
-  lines = a.lines;
-  word = a.word;
-  bank = a.place;
-  value = a.value;
+  answer = record { code = code_of x a.answer.code; lines = a.answer.lines; word = a.answer.word };
+  banks = a.banks;
 }
 
 -- what the record at place p gives, with so much space for its reply
@@ -109,12 +106,12 @@ core_replayed z s p space =
 -- with the banks' words of the controller before
 abbrev pub whole : Controller → CoreReplayed → Replayed
 whole z r = record {
-  controller = record { core = r.core; banks = changed z.banks r.bank r.value };
+  controller = record { core = r.core; banks = changed z.banks r.banks };
   place = r.place;
   ended = r.ended;
-  code = r.code;
-  lines = r.lines;
-  word = r.word;
+  code = r.answer.code;
+  lines = r.answer.lines;
+  word = r.answer.word;
 }
 
 pub whole-record : (z : Controller) (s : List ℕ) (p space : ℕ) → whole z (core_replayed z s p space) ≡ record_at z s p space

@@ -6,19 +6,17 @@ ghost use Rattle.base.specs.Base as base;
 ghost use Rattle.model.specs.Script as scripts;
 ghost use Rattle.script.specs.OneWay as way;
 
-use model::{Controller, Core, Reading, Step};
+use model::{Answer, Controller, Core, Reading, Refusal, Step};
+use writes::BankWrite;
 
 // ---- one record
 
-// The record at a place of the script, with so much space for its reply: without it, nothing can be answered (code 9).
+// The record at a place of the script, with so much space for its reply: without it, nothing but the end can be answered.
 fn readable(script: &[u8], place: usize, space: usize) -> Reading
     ensures { result ≡ way.answerable (scripts.reading script.now place) space }
 {
-    if space < 9 {
-        if script.len() <= place {
-            return Reading::End;
-        }
-        return Reading::Malformed(9);
+    if space < 9 && place < script.len() {
+        return Err(Refusal::NoSpace);
     }
     records::reading(script, place)
 }
@@ -28,9 +26,8 @@ fn step_of(x: Reading) -> Step
     ensures { result ≡ way.step_of x }
 {
     match x {
-        Reading::End => Step::BitTimes(0),
-        Reading::Malformed(_) => Step::BitTimes(0),
-        Reading::Found(e, _) => e,
+        Ok(Some((e, _))) => e,
+        Ok(None) | Err(_) => Step::BitTimes(0),
     }
 }
 
@@ -38,9 +35,9 @@ fn code_of(x: Reading, code: u8) -> u8
     ensures { result ≡ way.code_of x code }
 {
     match x {
-        Reading::End => 0,
-        Reading::Malformed(k) => k,
-        Reading::Found(_, _) => code,
+        Ok(Some(_)) => code,
+        Ok(None) => 0,
+        Err(refusal) => u8::from(refusal),
     }
 }
 
@@ -49,36 +46,26 @@ fn place_of(x: Reading, n: usize, place: usize) -> usize
     ensures { result ≡ way.place_of x n place }
 {
     match x {
-        Reading::End => n,
-        Reading::Malformed(_) => place,
-        Reading::Found(_, q) => q,
+        Ok(Some((_, q))) => q,
+        Ok(None) => n,
+        Err(_) => place,
     }
 }
 
 fn is_end(x: Reading) -> bool
     ensures { result ≡ way.is_end x }
 {
-    match x {
-        Reading::End => true,
-        Reading::Malformed(_) => false,
-        Reading::Found(_, _) => false,
-    }
+    matches!(x, Ok(None))
 }
 
 // 81 06 00, code, lines, word.
-fn write_reply(reply: &mut [u8], code: u8, lines: u8, word: u32)
+fn write_reply(reply: &mut [u8], answer: Answer)
     requires { 9 ≤ length reply.old }
-    ensures { reply.new ≡ scripts.overwritten (scripts.reply code lines word) reply.old }
+    ensures { reply.new ≡ scripts.overwritten (scripts.reply answer.code answer.lines answer.word) reply.old }
 {
-    reply[0] = 0x81;
-    reply[1] = 0x06;
-    reply[2] = 0x00;
-    reply[3] = code;
-    reply[4] = lines;
-    reply[5] = (word % 256) as u8;
-    reply[6] = ((word >> 8) % 256) as u8;
-    reply[7] = ((word >> 16) % 256) as u8;
-    reply[8] = ((word >> 24) % 256) as u8;
+    let Answer { code, lines, word } = answer;
+    let [w0, w1, w2, w3] = word.to_le_bytes();
+    reply[..9].copy_from_slice(&[0x81, 0x06, 0x00, code, lines, w0, w1, w2, w3]);
 }
 
 // The reply to a lesson's opening that is refused, where there is space for it, and the code that is answered: 9 without.
@@ -87,34 +74,33 @@ pub fn refuse_opening(reply: &mut [u8], lines: u8) -> u8
     ensures reply_after { reply.new ≡ scripts.overwritten (base.pick (ltb (length reply.old) 9) [] (scripts.reply 11 lines 0)) reply.old }
 {
     if reply.len() < 9 {
-        return 9;
+        return u8::from(Refusal::NoSpace);
     }
-    write_reply(reply, 11, lines, 0);
-    11
+    let code = u8::from(Refusal::NotOpened);
+    let answer = Answer { code, lines, word: 0 };
+    write_reply(reply, answer);
+    code
 }
 
 // The end and code 9 have no reply.
-fn write_answer(reply: &mut [u8], ended: bool, code: u8, lines: u8, word: u32)
-    requires { (ended || eqb code 9) ≡ false → 9 ≤ length reply.old }
-    ensures { reply.new ≡ scripts.overwritten (base.pick (ended || eqb code 9) [] (scripts.reply code lines word)) reply.old }
+fn write_answer(reply: &mut [u8], ended: bool, answer: Answer)
+    requires { (ended || eqb answer.code 9) ≡ false → 9 ≤ length reply.old }
+    ensures { reply.new ≡ scripts.overwritten (base.pick (ended || eqb answer.code 9) [] (scripts.reply answer.code answer.lines answer.word)) reply.old }
 {
-    if ended | (code == 9) {
+    if ended || answer.code == 9 {
         return;
     }
-    write_reply(reply, code, lines, word);
+    write_reply(reply, answer);
 }
 
-// What one record gives, the banks' words by the place (`bank`) and the value of the one that is written: none at place 28.
+// What one record gives, the words of the banks by what its step does to them.
 #[derive(Clone, Copy)]
 pub struct CoreReplayed {
     pub core: Core,
     pub place: usize,
     pub ended: bool,
-    pub code: u8,
-    pub lines: u8,
-    pub word: u32,
-    pub bank: u32,
-    pub value: u32,
+    pub answer: Answer,
+    pub banks: BankWrite,
 }
 
 // One record: it is read, its step is done, and its reply is written to the first nine bytes of the reply space. The
@@ -124,23 +110,19 @@ pub fn core_replayed(z: Controller, script: &[u8], place: usize, reply: &mut [u8
     ensures reply_after { reply.new ≡ scripts.overwritten (scripts.reply_of (way.whole z result)) reply.old }
 {
     let x = readable(script, place, reply.len());
-    let c = z.core;
-    let banks = z.banks;
-    let a = controller::core_step(c, banks, step_of(x));
-    let d = a.core;
-    let code = code_of(x, a.code);
+    let s = controller::core_step(z.core, z.banks, step_of(x));
+    let answer = Answer {
+        code: code_of(x, s.answer.code),
+        ..s.answer
+    };
     let ended = is_end(x);
-    let next = place_of(x, script.len(), place);
-    write_answer(reply, ended, code, a.lines, a.word);
+    write_answer(reply, ended, answer);
     CoreReplayed {
-        core: d,
-        place: next,
-        ended: ended,
-        code: code,
-        lines: a.lines,
-        word: a.word,
-        bank: a.place,
-        value: a.value,
+        core: s.core,
+        place: place_of(x, script.len(), place),
+        ended,
+        answer,
+        banks: s.banks,
     }
 }
 
@@ -150,15 +132,12 @@ pub fn core_replayed(z: Controller, script: &[u8], place: usize, reply: &mut [u8
 pub fn stops(ended: bool, code: u8) -> bool
     ensures { result ≡ scripts.stops ended code }
 {
-    ended | ((6 <= code) & (code <= 9))
+    ended || matches!(code, 6..=9)
 }
 
 // How many bytes a record's reply has: none at the end and for code 9.
 pub fn reply_length(ended: bool, code: u8) -> usize
     ensures { result ≡ base.pick (ended || eqb code 9) 0 9 }
 {
-    if ended | (code == 9) {
-        return 0;
-    }
-    9
+    if ended || code == 9 { 0 } else { 9 }
 }

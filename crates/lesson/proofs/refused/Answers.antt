@@ -8,6 +8,6 @@ pub returns : goal.returns
 returns c =
     let l = c.lines_of-lines.ensures in
     record {
-      value = rw (c.refuse_opening-code.ensures.value, l);
-      reply_after = rw (c.refuse_opening-code.ensures.value, l, refused-writes (ltb (length c.args.reply.now) 9) c.args.z c.args.place) (rw l at c.refuse_opening-code.ensures.reply_after);
+      value = rw (c.refuse_opening.ensures.value, l);
+      reply_after = rw (c.refuse_opening.ensures.value, l, refused-writes (ltb (length c.args.reply.now) 9) c.args.z c.args.place) (rw l at c.refuse_opening.ensures.reply_after);
     }

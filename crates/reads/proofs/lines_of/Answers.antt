@@ -12,17 +12,18 @@ unfolding lines_of fifo_line status_line
 returns-then-ier-eq0 c = simp c.if-ier-eq0.true
 
 pub overflow_add-sum : goal.overflow_add-sum
-overflow_add-sum c = omega (arith, and_le_r c.args.c.control.ier c.one-10.result, c.one-10.ensures.1)
+overflow_add-sum c = omega (arith, and_le_r c.args.c.control.ier c.one.result)
 
 pub overflow_add-sum-2 : goal.overflow_add-sum-2
-overflow_add-sum-2 c = omega (arith, and_le_r c.args.c.control.ier c.one-10.result, c.one-10.ensures.1)
+overflow_add-sum-2 c = omega (arith, and_le_r c.args.c.control.ier c.one.result)
 
 pub overflow_add-sum-3 : goal.overflow_add-sum-3
-overflow_add-sum-3 c = omega (arith, and_le_r c.args.c.control.ier c.one-10.result, c.one-10.ensures.1)
+overflow_add-sum-3 c = omega (arith, and_le_r c.args.c.control.ier c.one.result)
 
 pub overflow_cast-result : goal.overflow_cast-result
-overflow_cast-result c = omega (arith, and_le_r c.args.c.control.ier c.one-10.result, c.one-10.ensures.1)
+overflow_cast-result c = omega (arith, and_le_r c.args.c.control.ier c.one.result)
 
 pub returns : goal.returns
 unfolding lines_of fifo_line status_line
-returns c = simp (c.one-13.ensures.0, c.one-12.ensures.0, c.one-11.ensures.0, c.one-10.ensures.0, c.any_rqcp.ensures, c.one-9.ensures.0, c.one-8.ensures.0, c.one-7.ensures.0, c.one-6.ensures.0, c.one-5.ensures.0, c.one-4.ensures.0, c.one-3.ensures.0, c.one-2.ensures.0, c.one.ensures.0, one-flag c.args.c.control.ier (any_rqcp c.args.c.transmit), line_up 1, line_up 4, line_up 15)
+returns c =
+    simp (c.one-4.ensures.0, c.fifo_flags-2.ensures, c.one-3.ensures.0, c.fifo_flags.ensures, c.one-2.ensures.0, c.flags-status.ensures, c.one.ensures.0, c.any_rqcp.ensures, one-flag c.args.c.control.ier (any_rqcp c.args.c.transmit), line_up 1, line_up 4, line_up 15)
