@@ -1,5 +1,5 @@
 -- A call's answer and its block, by the way that it went.
-use mathlib.Core.Bool.{Bool, not, ◌&&◌, false≢true}
+use mathlib.Core.Bool.{Bool, true, false, not, ◌&&◌, false≢true}
 use mathlib.Core.List.{List}
 use mathlib.Core.Path.{◌≡◌, refl, sym, ap, ◌∙◌}
 use Prim.Native.Nat.{ℕ}
@@ -19,8 +19,8 @@ use Rattle.model.specs.declared.Core.{Core}
 use Rattle.model.specs.declared.Step as steps
 use Rattle.model.specs.declared.Step.TheVariants.{Reset, Read, Write, Idle, BitTimes, Activity, Start, Outcome, Receive, ReceiveError}
 use Rattle.model.proofs.RefusalNumbers.{refused}
-use Rattle.writes.specs.Places.{changed}
-use Rattle.controller.specs.After.{place_after, core_step, core_step_at, whole, whole-step}
+use Rattle.writes.specs.Places.{is_nothing, changed}
+use Rattle.controller.specs.After.{write_after, core_step, core_step_at, whole, whole-step}
 use Rattle.controller.specs.declared.CoreStepped.{CoreStepped}
 use Rattle.block.specs.Block.{block_length}
 use Rattle.block.specs.Loading.{right_length, accepts, banks_loaded, loaded, save_code, saved_over, core_saved_over, banks_saved_over}
@@ -91,11 +91,11 @@ module _ (board : ℕ) (b : List ℕ) (e : steps.Step) (h : board ≡ 0) (l : Co
   stepped : whole (loaded b) s ≡ step (loaded b) e
   stepped = ap (λ (r : CoreStepped). whole (loaded b) r) (t ∙ ap (λ (z : Controller). core_step z.core z.banks e) state) ∙ whole-step (loaded b) e
 
-  pub answered : packed s.code s.lines s.word ≡ answer board b e
+  pub answered : packed s.answer.code s.answer.lines s.answer.word ≡ answer board b e
   unfolding answer
   answered = rw board_taken (ap (λ (r : Stepped). packed r.code r.lines r.word) stepped)
 
-  code_is : s.code ≡ (step (loaded b) e).code
+  code_is : s.answer.code ≡ (step (loaded b) e).code
   code_is = ap (λ (r : Stepped). r.code) stepped
 
   -- neither saving is refused
@@ -106,39 +106,39 @@ module _ (board : ℕ) (b : List ℕ) (e : steps.Step) (h : board ≡ 0) (l : Co
   banks-saved r x k = never_refused r x (ap right_length k ∙ same_size b s.core ∙ right)
 
   -- a refused step leaves the block, and so does a read
-  pub refused_leaves : (s.code ≡ 0 → ⊥) → b ≡ block_after board b e
+  pub refused_leaves : (s.answer.code ≡ 0 → ⊥) → b ≡ block_after board b e
   unfolding block_after
-  refused_leaves n = rw (board_taken, sym (ap (λ (c : ℕ). eqb c 0) code_is) ∙ ne_eqb s.code 0 n)
+  refused_leaves n = rw (board_taken, sym (ap (λ (c : ℕ). eqb c 0) code_is) ∙ ne_eqb s.answer.code 0 n)
 
   pub read_leaves : Is (is_read e) → b ≡ block_after board b e
   unfolding block_after
   read_leaves r = rw (and-not (takes board b) (changes b e) (and-not (eqb (step (loaded b) e).code 0) (not (is_read e)) (rw r)))
 
-  module _ (z : s.code ≡ 0) (n : Not (is_read e)) where
+  module _ (z : s.answer.code ≡ 0) (n : Not (is_read e)) where
     changing : Is (takes board b && changes b e)
-    changing = rw (board_taken, sym (ap (λ (c : ℕ). eqb c 0) code_is) ∙ eq-eqb s.code 0 z, n)
+    changing = rw (board_taken, sym (ap (λ (c : ℕ). eqb c 0) code_is) ∙ eq-eqb s.answer.code 0 z, n)
 
-    place_is : s.place ≡ place_after e
+    write_is : s.banks ≡ write_after e
     unfolding core_step core_step_at
-    place_is =
-        let c : refusal l e ≡ 0 = sym (ap (λ (r : CoreStepped). r.code) t) ∙ z in
-        ap (λ (r : CoreStepped). r.place) t ∙ rw (eq-eqb (refusal l e) 0 c)
+    write_is =
+        let c : refusal l e ≡ 0 = sym (ap (λ (r : CoreStepped). r.answer.code) t) ∙ z in
+        ap (λ (r : CoreStepped). r.banks) t ∙ rw (eq-eqb (refusal l e) 0 c)
 
     core_is : s.core ≡ (step (loaded b) e).controller.core
     core_is = ap (λ (r : Stepped). r.controller.core) stepped
 
     -- all but the banks' words
-    pub core-written : (d : List ℕ) → s.place ≡ 28 → d ≡ core_saved_over b s.core → d ≡ block_after board b e
+    pub core-written : (d : List ℕ) → is_nothing s.banks ≡ true → d ≡ core_saved_over b s.core → d ≡ block_after board b e
     unfolding block_after core_saved_over
-    core-written d w x = x ∙ rw (right, changing, core_is, eq-eqb (place_after e) 28 (sym place_is ∙ w))
+    core-written d w x = x ∙ rw (right, changing, core_is, sym (ap is_nothing write_is) ∙ w)
 
-    banks_are : changed v s.place s.value ≡ (step (loaded b) e).controller.banks
-    banks_are = ap (λ (y : Controller). changed y.banks s.place s.value) state ∙ ap (λ (r : Stepped). r.controller.banks) stepped
+    banks_are : changed v s.banks ≡ (step (loaded b) e).controller.banks
+    banks_are = ap (λ (y : Controller). changed y.banks s.banks) state ∙ ap (λ (r : Stepped). r.controller.banks) stepped
 
     -- all
-    pub all_written_lem : (d u : List ℕ) → (s.place ≡ 28 → ⊥) → u ≡ changed v s.place s.value → length u ≡ 28 → d ≡ banks_saved_over (core_saved_over b s.core) u → d ≡ block_after board b e
+    pub all_written_lem : (d u : List ℕ) → is_nothing s.banks ≡ false → u ≡ changed v s.banks → length u ≡ 28 → d ≡ banks_saved_over (core_saved_over b s.core) u → d ≡ block_after board b e
     unfolding block_after saved_over
     all_written_lem d u w x m y =
         let o : Controller = record { core = s.core; banks = u } in
         let f : o ≡ (step (loaded b) e).controller = λ i. record { core = core_is i; banks = (x ∙ banks_are) i } in
-        y ∙ over b o m ∙ rw (right, changing, ne_eqb (place_after e) 28 (λ a. w (place_is ∙ a)), f)
+        y ∙ over b o m ∙ rw (right, changing, sym (ap is_nothing write_is) ∙ w, f)

@@ -30,8 +30,8 @@ use Rattle.model.specs.declared.Step.TheVariants.{Reset, Read, Write, Idle, BitT
 use Rattle.model.proofs.Coded.{codes, refused}
 use Rattle.model.proofs.Reached.{reset-in_range, step-in_range, after-in_range}
 use Rattle.model.proofs.FromAnywhere.{from-state, hardware_reset}
-use Rattle.writes.specs.Places.{changed, changed-none}
-use Rattle.controller.specs.After.{place_after, value_after, core_step, core_step_at, whole-step}
+use Rattle.writes.specs.Places.{is_nothing, changed-nothing}
+use Rattle.controller.specs.After.{write_after, core_step, core_step_at, whole-step}
 use Rattle.block.specs.Block.{block_length, core_bytes, banks_bytes, saved}
 use Rattle.block.specs.Loading.{right_length, accepts, load_code, loaded, Saves}
 use Rattle.block.proofs.Lengths.{core-length}
@@ -125,12 +125,11 @@ front (x ∷ xs) [] r e = absurd (omega arith)
 front (x ∷ xs) (y ∷ ys) r e = past_head y ys (xs ++ r) 0 ∙ ap (λ (l : List ℕ). y ∷ l) (front xs ys r (omega arith))
 
 -- a step that writes no bank's word keeps them all
-banks-kept : (z : Controller) (e : steps.Step) → (step z e).code ≡ 0 → place_after e ≡ 28 → (step z e).controller.banks ≡ z.banks
+banks-kept : (z : Controller) (e : steps.Step) → (step z e).code ≡ 0 → is_nothing (write_after e) ≡ true → (step z e).controller.banks ≡ z.banks
 unfolding core_step core_step_at step answered
 banks-kept z e k p =
     sym (ap (λ (r : answers.Stepped). r.controller.banks) (whole-step z e))
-    ∙ ap (λ (i : ℕ). changed z.banks i (pick (eqb (refusal z.core e) 0) (value_after e) 0)) (rw (eq-eqb (refusal z.core e) 0 k) p)
-    ∙ changed-none z.banks (pick (eqb (refusal z.core e) 0) (value_after e) 0)
+    ∙ rw (eq-eqb (refusal z.core e) 0 k) (changed-nothing z.banks (write_after e) p)
 
 module _ (z : Controller) (r : InRange z) where
   loads : loaded (saved z) ≡ z
@@ -171,16 +170,16 @@ module _ (z : Controller) (r : InRange z) where
   block-next : (e : steps.Step) → block_after 0 (saved z) e ≡ saved (step z e).controller
   unfolding block_after
   block-next e =
-      rw (taken, loads) (by_change (eqb (step z e).code 0 && not (is_read e)) refl (eqb (place_after e) 28) refl)
+      rw (taken, loads) (by_change (eqb (step z e).code 0 && not (is_read e)) refl (is_nothing (write_after e)) refl)
     where
-      changed-one : (t : Bool) → eqb (place_after e) 28 ≡ t → Is (eqb (step z e).code 0 && not (is_read e))
+      changed-one : (t : Bool) → is_nothing (write_after e) ≡ t → Is (eqb (step z e).code 0 && not (is_read e))
           → pick t (sets (saved z) 0 (core_bytes (step z e).controller.core)) (saved (step z e).controller) ≡ saved (step z e).controller
       changed-one true q h =
           core-over (step z e).controller.core
-          ∙ ap (λ (v : List ℕ). saved (record { core = (step z e).controller.core; banks = v })) (sym (banks-kept z e (eqb-true _ _ (and_l (eqb (step z e).code 0) _ h)) (eqb-true _ _ q)))
+          ∙ ap (λ (v : List ℕ). saved (record { core = (step z e).controller.core; banks = v })) (sym (banks-kept z e (eqb-true _ _ (and_l (eqb (step z e).code 0) _ h)) q))
       changed-one false q h = refl
 
-      by_change : (t : Bool) → eqb (step z e).code 0 && not (is_read e) ≡ t → (p : Bool) → eqb (place_after e) 28 ≡ p
+      by_change : (t : Bool) → eqb (step z e).code 0 && not (is_read e) ≡ t → (p : Bool) → is_nothing (write_after e) ≡ p
           → pick t (pick p (sets (saved z) 0 (core_bytes (step z e).controller.core)) (saved (step z e).controller)) (saved z) ≡ saved (step z e).controller
       by_change true q p f = changed-one p f q
       by_change false q p f = sym (ap saved (unmoved e q))

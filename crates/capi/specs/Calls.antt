@@ -10,7 +10,8 @@ use Rattle.model.specs.Refusals.{code}
 use Rattle.model.specs.declared.Answer.{Answer}
 use Rattle.model.specs.declared.Refusal.{Refusal}
 use Rattle.model.specs.declared.Step as steps
-use Rattle.controller.specs.After.{place_after}
+use Rattle.writes.specs.Places.{is_nothing}
+use Rattle.controller.specs.After.{write_after}
 use Rattle.block.specs.Block.{block_length, core_bytes, saved}
 use Rattle.block.specs.Loading.{right_length, accepts, loaded}
 
@@ -51,7 +52,7 @@ changes b e = eqb (step (loaded b) e).code 0 && not (is_read e)
 unfoldable pub block_after : ℕ → List ℕ → steps.Step → List ℕ
 block_after board b e =
     pick (takes board b && changes b e)
-    (pick (eqb (place_after e) 28) (sets b 0 (core_bytes (step (loaded b) e).controller.core)) (saved (step (loaded b) e).controller))
+    (pick (is_nothing (write_after e)) (sets b 0 (core_bytes (step (loaded b) e).controller.core)) (saved (step (loaded b) e).controller))
     b
 
 -- a reset is refused only for a wrong length, and else writes the reset state

@@ -27,19 +27,14 @@ fn stepped(board: u32, b: &mut [u8], e: Step) -> Result<Answer, Refusal>
     let core = block_load::load_core(b)?;
     let banks = block_load::load_banks(b);
     let s = controller::core_step(core, banks, e);
-    let answer = Answer {
-        code: s.code,
-        lines: s.lines,
-        word: s.word,
-    };
-    if s.code != 0 || matches!(e, Step::Read(_)) {
-        return Ok(answer);
+    if s.answer.code != 0 || matches!(e, Step::Read(_)) {
+        return Ok(s.answer);
     }
     block_save::save_core(b, s.core)?;
-    if s.place != 28 {
-        block_save::save_banks(b, writes::banks_after(banks, s.place, s.value))?;
+    if !s.banks.is_nothing() {
+        block_save::save_banks(b, writes::banks_after(banks, s.banks))?;
     }
-    Ok(answer)
+    Ok(s.answer)
 }
 
 fn call(board: u32, b: &mut [u8], e: Step) -> u64
