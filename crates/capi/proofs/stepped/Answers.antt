@@ -6,7 +6,7 @@ use Rattle.base.proofs.Choices.{Is, Not}
 use Rattle.model.specs.Shown.{is_read}
 use Rattle.capi.proofs.Called.{no_board, not-loaded, not_read, answered, core-saved, banks-saved, refused_leaves, read_leaves, core-written, all_written_lem}
 use Rattle.capi.proofs.stepped.Goals as goal
-use Rattle.capi.proofs.stepped.Goals.{then-s-answer-ne0-via-then-s-answer-ne0, then-s-answer-ne0-via-else-s-answer-ne0+then-matches, in-Read, in_default}
+use Rattle.capi.proofs.stepped.Goals.{then-s-ne0-via-then-s-ne0, then-s-ne0-via-else-s-ne0+then-matches, in-Read, in_default, then-not-is_nothing+in_ok-save_banks, else-not-is_nothing}
 
 pub returns-then-board-ne0-clause-answer : goal.returns-then-board-ne0-clause-answer
 returns-then-board-ne0-clause-answer c = (no_board c.args.board c.args.b.now c.args.e c.if-board-ne0.true).0
@@ -22,23 +22,23 @@ returns-in_err-core-clause-answer c =
 pub returns-in_err-core-clause-block : goal.returns-in_err-core-clause-block
 returns-in_err-core-clause-block c = (not-loaded c.args.board c.args.b.now c.args.e _ c.in_err-core.ensures).1
 
-pub returns-then-s-answer-ne0-clause-answer : goal.returns-then-s-answer-ne0-clause-answer
-returns-then-s-answer-ne0-clause-answer c =
+pub returns-then-s-ne0-clause-answer : goal.returns-then-s-ne0-clause-answer
+returns-then-s-ne0-clause-answer c =
     let h = c.if-board-ne0.false in
     let p = c.in_ok-core.ensures in
     let q = c.load_banks-banks.ensures in
     let t = c.core_step-s.ensures in
     answered c.args.board c.args.b.now c.args.e h _ p _ q _ t
 
-pub returns-then-s-answer-ne0-clause-block : goal.returns-then-s-answer-ne0-clause-block
-returns-then-s-answer-ne0-clause-block c =
+pub returns-then-s-ne0-clause-block : goal.returns-then-s-ne0-clause-block
+returns-then-s-ne0-clause-block c =
     let h = c.if-board-ne0.false in
     let p = c.in_ok-core.ensures in
     let q = c.load_banks-banks.ensures in
     let t = c.core_step-s.ensures in
-    elim c.then-s-answer-ne0.branch [
-      then-s-answer-ne0-via-then-s-answer-ne0 w ↦ refused_leaves c.args.board c.args.b.now c.args.e h _ p _ q _ t w.if-s-answer-ne0.true
-      | then-s-answer-ne0-via-else-s-answer-ne0+then-matches w ↦
+    elim c.then-s-ne0.branch [
+      then-s-ne0-via-then-s-ne0 w ↦ refused_leaves c.args.board c.args.b.now c.args.e h _ p _ q _ t w.if-s-ne0.true
+      | then-s-ne0-via-else-s-ne0+then-matches w ↦
         let r : Is (is_read c.args.e) = elim w.match-matches.branch [ in-Read x ↦ rw x.in-Read.is refl | in_default x ↦ cc ] in
         read_leaves c.args.board c.args.b.now c.args.e h _ p _ q _ t r
     ]
@@ -75,36 +75,25 @@ returns-in_err-save_banks-clause-block c =
     let t = c.core_step-s.ensures in
     absurd (banks-saved c.args.board c.args.b.now c.args.e h _ p _ q _ t _ _ c.save_core.ensures.block c.in_err-save_banks.ensures.code)
 
-pub returns-in_ok-save_banks-clause-answer : goal.returns-in_ok-save_banks-clause-answer
-returns-in_ok-save_banks-clause-answer c =
+pub returns-clause-answer : goal.returns-clause-answer
+returns-clause-answer c =
     let h = c.if-board-ne0.false in
     let p = c.in_ok-core.ensures in
     let q = c.load_banks-banks.ensures in
     let t = c.core_step-s.ensures in
     answered c.args.board c.args.b.now c.args.e h _ p _ q _ t
 
-pub returns-in_ok-save_banks-clause-block : goal.returns-in_ok-save_banks-clause-block
-returns-in_ok-save_banks-clause-block c =
+pub returns-clause-block : goal.returns-clause-block
+returns-clause-block c =
     let h = c.if-board-ne0.false in
     let p = c.in_ok-core.ensures in
     let q = c.load_banks-banks.ensures in
     let t = c.core_step-s.ensures in
+    let z = c.if-s-ne0.false in
     let n : Not (is_read c.args.e) = elim c.match-matches.branch [ in-Read w ↦ cc | in_default w ↦ not_read c.args.e w.in_default.not-Read ] in
-    all_written_lem c.args.board c.args.b.now c.args.e h _ p _ q _ t c.if-s-answer-ne0.false n _ _ (sym c.is_nothing.ensures ∙ c.if-not-is_nothing.true) c.banks_after.ensures (search rules) (rw (sym c.save_core.ensures.block) c.save_banks.ensures.block)
-
-pub returns-else-not-is_nothing-clause-answer : goal.returns-else-not-is_nothing-clause-answer
-returns-else-not-is_nothing-clause-answer c =
-    let h = c.if-board-ne0.false in
-    let p = c.in_ok-core.ensures in
-    let q = c.load_banks-banks.ensures in
-    let t = c.core_step-s.ensures in
-    answered c.args.board c.args.b.now c.args.e h _ p _ q _ t
-
-pub returns-else-not-is_nothing-clause-block : goal.returns-else-not-is_nothing-clause-block
-returns-else-not-is_nothing-clause-block c =
-    let h = c.if-board-ne0.false in
-    let p = c.in_ok-core.ensures in
-    let q = c.load_banks-banks.ensures in
-    let t = c.core_step-s.ensures in
-    let n : Not (is_read c.args.e) = elim c.match-matches.branch [ in-Read w ↦ cc | in_default w ↦ not_read c.args.e w.in_default.not-Read ] in
-    core-written c.args.board c.args.b.now c.args.e h _ p _ q _ t c.if-s-answer-ne0.false n _ (sym c.is_nothing.ensures ∙ c.if-not-is_nothing.false) c.save_core.ensures.block
+    elim c.if-not-is_nothing.branch [
+      then-not-is_nothing+in_ok-save_banks w ↦
+        w.b-is ∙ all_written_lem c.args.board c.args.b.now c.args.e h _ p _ q _ t z n _ _ (sym c.is_nothing.ensures ∙ w.if-not-is_nothing.true) w.banks_after.ensures (search rules) (rw (sym c.save_core.ensures.block) w.save_banks.ensures.block)
+      | else-not-is_nothing w ↦
+        w.b-is ∙ core-written c.args.board c.args.b.now c.args.e h _ p _ q _ t z n _ (sym c.is_nothing.ensures ∙ w.if-not-is_nothing.false) c.save_core.ensures.block
+    ]
