@@ -2,7 +2,7 @@
 ghost use Rattle.std.specs.Prelude.{◌≡◌, ◌+◌, ◌<◌, ◌≤◌};
 ghost use Rattle.block.specs.Block as blocks;
 
-use crate::Block;
+use block::Block;
 
 #[tactic(auto, unfolding(block::specs::Block::header_ok))]
 fn header_ok(b: &Block, i: usize, tag: u8, n: u8) -> bool

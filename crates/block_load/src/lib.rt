@@ -5,14 +5,12 @@ ghost use Rattle.std.specs.Prelude.{◌≡◌};
 ghost use Rattle.block.specs.Block as blocks;
 ghost use Rattle.block_load.specs.Loaded as loading;
 
+use block::Block;
 use model::{ByMailbox, Controller, Core, Refusal, Transmit};
 
 mod form; // form.rt: whether what stands beside the numbers is as saving writes it
 mod numbers; // numbers.rt: numbers and flags in a block
 mod take; // take.rt: each part of the state from its field
-
-// Bytes as many as a block has.
-type Block = [u8; 354];
 
 #[tactic(auto, unfolding(block::specs::Block::transmit_at))]
 fn transmit_at(b: &Block) -> Transmit

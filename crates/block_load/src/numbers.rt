@@ -3,7 +3,7 @@ ghost use Rattle.std.specs.Prelude.{◌≡◌, ◌+◌, ◌<◌, ◌≤◌};
 ghost use Rattle.model.specs.Script as scripts;
 ghost use Rattle.block.specs.Block as blocks;
 
-use crate::Block;
+use block::Block;
 
 pub(crate) fn number16(b: &Block, i: usize) -> u16
     requires { i + 2 ≤ blocks.block_length }

@@ -3,7 +3,7 @@ ghost use Rattle.std.specs.Prelude.{◌≡◌, ◌+◌, ◌≤◌, drop};
 ghost use Rattle.model.specs.Queue as queues;
 ghost use Rattle.block.specs.Block as blocks;
 
-use crate::Block;
+use block::Block;
 use crate::numbers::{flag_at, number16, number32};
 use model::{
     ByMailbox, Control, Errors, FifoState, Filters, Mailbox, MailboxState, Mode, Queue,

@@ -1,21 +1,21 @@
 // A controller saved as a state block in lent bytes (docs/BLOCK.md).
 #![tactic(auto)]
 
-ghost use Rattle.std.specs.Prelude.{◌≡◌, ◌≤◌, length};
+ghost use Rattle.std.specs.Prelude.{◌≡◌};
 ghost use Rattle.std.proofs.lemmas.List.Edits.{sets};
 ghost use Rattle.model.specs.Refusals.{code_of};
 ghost use Rattle.model.specs.Registers as map;
 ghost use Rattle.block.specs.Block as blocks;
 ghost use Rattle.block.specs.Loading as loading;
 
+use block::Block;
 use model::{Controller, Core, Refusal, Transmit};
 
 mod numbers; // numbers.rt: bytes, words and flags to their places
 mod put; // put.rt: each part of the state to its field
 mod reset; // reset.rt: the block of the reset state
 
-fn put_transmit(b: &mut [u8], t: Transmit)
-    requires { 109 ≤ length b.old }
+fn put_transmit(b: &mut Block, t: Transmit)
     ensures { b.new ≡ sets b.old 30 (blocks.transmit_bytes t) }
 {
     put::put_mailbox(b, 30, 0x42, t.mailboxes.m0);
@@ -24,8 +24,7 @@ fn put_transmit(b: &mut [u8], t: Transmit)
     put::put_queue(b, t.queue);
 }
 
-fn put_core(b: &mut [u8], c: Core)
-    requires { 239 ≤ length b.old }
+fn put_core(b: &mut Block, c: Core)
     ensures { b.new ≡ sets b.old 0 (blocks.core_bytes c) }
 {
     put::put_control(b, c.control);
@@ -43,10 +42,10 @@ pub fn save_reset(b: &mut [u8]) -> Result<(), Refusal>
     ensures code { code_of result ≡ loading.save_code b.old }
     ensures block { b.new ≡ loading.saved_over b.old map.reset }
 {
-    if b.len() != 354 {
+    let Some(block) = b.as_mut_array() else {
         return Err(Refusal::BadBlock);
-    }
-    reset::put_reset(b);
+    };
+    reset::put_reset(block);
     Ok(())
 }
 
@@ -55,10 +54,10 @@ pub fn save_core(b: &mut [u8], c: Core) -> Result<(), Refusal>
     ensures code { code_of result ≡ loading.save_code b.old }
     ensures block { b.new ≡ loading.core_saved_over b.old c }
 {
-    if b.len() != 354 {
+    let Some(block) = b.as_mut_array() else {
         return Err(Refusal::BadBlock);
-    }
-    put_core(b, c);
+    };
+    put_core(block, c);
     Ok(())
 }
 
@@ -67,10 +66,10 @@ pub fn save_banks(b: &mut [u8], v: [u32; 28]) -> Result<(), Refusal>
     ensures code { code_of result ≡ loading.save_code b.old }
     ensures block { b.new ≡ loading.banks_saved_over b.old v }
 {
-    if b.len() != 354 {
+    let Some(block) = b.as_mut_array() else {
         return Err(Refusal::BadBlock);
-    }
-    put::put_banks(b, v);
+    };
+    put::put_banks(block, v);
     Ok(())
 }
 

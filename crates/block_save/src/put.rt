@@ -1,16 +1,16 @@
 // Each part of the state to its field of the block.
-ghost use Rattle.std.specs.Prelude.{◌≡◌, [], ◌∷◌, ◌+◌, ◌≤◌, length};
+ghost use Rattle.std.specs.Prelude.{◌≡◌, [], ◌∷◌, ◌+◌, ◌≤◌};
 ghost use Rattle.std.proofs.lemmas.List.Edits.{sets};
 ghost use Rattle.model.specs.Queue as queues;
 ghost use Rattle.block.specs.Block as blocks;
 
 use crate::numbers::{put, put_flags, put_words};
+use block::Block;
 use model::{
     Control, Errors, FifoState, Filters, Mailbox, MailboxState, Queue, RequestOrder, StoredFrame,
 };
 
-pub(crate) fn put_control(b: &mut [u8], k: Control)
-    requires { 23 ≤ length b.old }
+pub(crate) fn put_control(b: &mut Block, k: Control)
     ensures { b.new ≡ sets b.old 0 (blocks.control_bytes k) }
 {
     put(b, 0, [0x40, 20, 0]);
@@ -20,8 +20,7 @@ pub(crate) fn put_control(b: &mut [u8], k: Control)
     put_flags(b, 19, [k.reinitialized, k.erri, k.wkui, k.slaki]);
 }
 
-pub(crate) fn put_errors(b: &mut [u8], e: Errors)
-    requires { 30 ≤ length b.old }
+pub(crate) fn put_errors(b: &mut Block, e: Errors)
     ensures { b.new ≡ sets b.old 23 (blocks.errors_bytes e) }
 {
     put(b, 23, [0x41, 4, 0]);
@@ -29,8 +28,8 @@ pub(crate) fn put_errors(b: &mut [u8], e: Errors)
     put(b, 28, [e.rec, e.lec]);
 }
 
-pub(crate) fn put_mailbox(b: &mut [u8], i: usize, tag: u8, x: MailboxState)
-    requires { i + 23 ≤ length b.old }
+pub(crate) fn put_mailbox(b: &mut Block, i: usize, tag: u8, x: MailboxState)
+    requires { i + 23 ≤ blocks.block_length }
     ensures { b.new ≡ sets b.old i (blocks.mailbox_bytes tag x) }
 {
     put(b, i, [tag, 20, 0]);
@@ -64,8 +63,7 @@ fn order_bytes(o: RequestOrder) -> [u8; 3]
     }
 }
 
-pub(crate) fn put_queue(b: &mut [u8], q: Queue)
-    requires { 109 ≤ length b.old }
+pub(crate) fn put_queue(b: &mut Block, q: Queue)
     ensures { b.new ≡ sets b.old 99 (blocks.queue_bytes q) }
 {
     put(b, 99, [0x45, 7, 0]);
@@ -76,15 +74,15 @@ pub(crate) fn put_queue(b: &mut [u8], q: Queue)
 
 // ---- reception
 
-fn put_frame(b: &mut [u8], i: usize, x: StoredFrame)
-    requires { i + 16 ≤ length b.old }
+fn put_frame(b: &mut Block, i: usize, x: StoredFrame)
+    requires { i + 16 ≤ blocks.block_length }
     ensures { b.new ≡ sets b.old i (blocks.frame_bytes x) }
 {
     put_words(b, i, [x.ri, x.rdt, x.rdl, x.rdh]);
 }
 
-pub(crate) fn put_fifo(b: &mut [u8], i: usize, tag: u8, q: FifoState)
-    requires { i + 55 ≤ length b.old }
+pub(crate) fn put_fifo(b: &mut Block, i: usize, tag: u8, q: FifoState)
+    requires { i + 55 ≤ blocks.block_length }
     ensures { b.new ≡ sets b.old i (blocks.fifo_bytes tag q) }
 {
     put(b, i, [tag, 52, 0]);
@@ -97,8 +95,7 @@ pub(crate) fn put_fifo(b: &mut [u8], i: usize, tag: u8, q: FifoState)
 
 // ---- filters
 
-pub(crate) fn put_filters(b: &mut [u8], g: Filters)
-    requires { 239 ≤ length b.old }
+pub(crate) fn put_filters(b: &mut Block, g: Filters)
     ensures { b.new ≡ sets b.old 219 (blocks.filters_bytes g) }
 {
     put(b, 219, [0x48, 17, 0]);
@@ -106,8 +103,7 @@ pub(crate) fn put_filters(b: &mut [u8], g: Filters)
     put_flags(b, 238, [g.finit]);
 }
 
-pub(crate) fn put_banks(b: &mut [u8], v: [u32; 28])
-    requires { 354 ≤ length b.old }
+pub(crate) fn put_banks(b: &mut Block, v: [u32; 28])
     ensures { b.new ≡ sets b.old 239 (blocks.banks_bytes v) }
 {
     put(b, 239, [0x49, 112, 0]);

@@ -1,13 +1,13 @@
 // The block of the reset state, byte by byte: `put_core` at a second place of the archive would cost every call 88 instructions.
-ghost use Rattle.std.specs.Prelude.{◌≡◌, length};
+ghost use Rattle.std.specs.Prelude.{◌≡◌};
 ghost use Rattle.model.specs.Registers as map;
 ghost use Rattle.block.specs.Block as blocks;
 ghost use Rattle.block_save.specs.Reset as bytes;
 
 use crate::numbers::{put, put_words};
+use block::Block;
 
-fn put_headers(b: &mut [u8])
-    requires { length b.old ≡ blocks.block_length }
+fn put_headers(b: &mut Block)
     ensures { b.new ≡ bytes.headers b.old }
 {
     put(b, 0, [0x40, 20, 0]);
@@ -22,8 +22,7 @@ fn put_headers(b: &mut [u8])
     put(b, 239, [0x49, 112, 0]);
 }
 
-fn put_numbers(b: &mut [u8])
-    requires { length b.old ≡ blocks.block_length }
+fn put_numbers(b: &mut Block)
     ensures { b.new ≡ bytes.reset_numbers b.old }
 {
     put_words(b, 3, [0x00010002, 0, 0x01230000]);
@@ -32,8 +31,7 @@ fn put_numbers(b: &mut [u8])
     put(b, 238, [1]);
 }
 
-pub(crate) fn put_reset(b: &mut [u8])
-    requires { length b.old ≡ blocks.block_length }
+pub(crate) fn put_reset(b: &mut Block)
     ensures { b.new ≡ blocks.saved map.reset }
 {
     b.fill(0);

@@ -1,5 +1,6 @@
 // The numbers of a step. One that is too wide for it becomes one that is refused with the same code: an offset of no register, and a number
-// that is out of range for every event.
+// that is out of range for every event. What is generic here is `try_from`: one function with the other number as an argument would have each
+// call say that number.
 ghost use Rattle.std.specs.Prelude.{◌≡◌};
 ghost use Rattle.capi.specs.Narrow as narrow;
 

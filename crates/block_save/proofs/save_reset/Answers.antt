@@ -2,10 +2,18 @@ use borrow.Author.Tests.{eq-eqb, ne_eqb}
 use Rattle.block.specs.Loading.{right_length, save_code, saved_over}
 use Rattle.block_save.proofs.save_reset.Goals as goal
 
-pub returns-then-b-ne354 : goal.returns-then-b-ne354
-unfolding right_length save_code saved_over
-returns-then-b-ne354 c = let e = ne_eqb _ _ c.if-b-ne354.true in record { code = rw e; block = rw e }
+pub returns-in_default-clause-code : goal.returns-in_default-clause-code
+unfolding right_length save_code
+returns-in_default-clause-code c = rw (ne_eqb _ _ c.in_default.ensures.cases)
 
-pub returns : goal.returns
-unfolding right_length save_code saved_over
-returns c = let e = eq-eqb _ _ c.if-b-ne354.false in record { code = rw e; block = rw (e, c.put_reset.ensures) }
+pub returns-in_default-clause-block : goal.returns-in_default-clause-block
+unfolding right_length saved_over
+returns-in_default-clause-block c = rw (ne_eqb _ _ c.in_default.ensures.cases)
+
+pub returns-clause-code : goal.returns-clause-code
+unfolding right_length save_code
+returns-clause-code c = rw (eq-eqb _ _ c.in-Some.ensures.cases.long)
+
+pub returns-clause-block : goal.returns-clause-block
+unfolding right_length saved_over
+returns-clause-block c = rw (eq-eqb _ _ c.in-Some.ensures.cases.long, c.put_reset.ensures)
