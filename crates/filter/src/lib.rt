@@ -3,7 +3,6 @@
 #![tactic(auto)]
 
 ghost use Rattle.std.specs.Prelude.{◌≡◌, ℕ, ◌+◌, ◌<◌, ◌≤◌, ◌==◌};
-ghost use Rattle.model.specs.declared.FilterClass.TheVariants.{List32, Mask32, List16, Mask16};
 ghost use Rattle.base.specs.Base as base;
 ghost use Rattle.model.specs.Banks as banks;
 ghost use Rattle.model.specs.Banks.{first_word, second_word, short_word};
@@ -15,20 +14,13 @@ use model::{Bank, Fifo, FilterClass, FilterNumber, Filters};
 
 // ---- the words of a bank
 
-fn first_word(banks: &[u32; 28], b: Bank) -> u32
+// R1 and R2.
+fn words_of(banks: &[u32; 28], b: Bank) -> (u32, u32)
     requires { b.0 < 14 }
-    ensures { result ≡ first_word banks.now b }
+    ensures { result ≡ (first_word banks.now b, second_word banks.now b) }
 {
-    let place = 2 * b.0;
-    banks[place as usize]
-}
-
-fn second_word(banks: &[u32; 28], b: Bank) -> u32
-    requires { b.0 < 14 }
-    ensures { result ≡ second_word banks.now b }
-{
-    let place = 2 * b.0 + 1;
-    banks[place as usize]
+    let place = 2 * b.0 as usize;
+    (banks[place], banks[place + 1])
 }
 
 // ---- the filters of a bank
@@ -113,7 +105,7 @@ fn first_number_of(g: Filters, f: Fifo, b: Bank) -> FilterNumber
         + (lists as u64) * 0x4000
         + ((mine & halves) as u64) * 0x10000000
         + ((lists & halves) as u64) * 0x40000000000;
-    let low = u64::count_ones(sides) as u8;
+    let low = sides.count_ones() as u8;
     FilterNumber(low)
 }
 
@@ -139,10 +131,9 @@ fn compare(k: FilterClass, a: u32, b: u32, j: u32, w: u32, short: u32, compared:
     requires { (short ≡ short_word w) × (compared < 56) }
     ensures { (result.takes ≡ banks.matches k a b j w) × (result.compared ≡ compared + 1) }
 {
-    let next = compared + 1;
     Comparison {
         takes: takes(k, a, b, j, w, short),
-        compared: next,
+        compared: compared + 1,
     }
 }
 
@@ -171,12 +162,13 @@ struct FirstMatch {
     compared: u32,
 }
 
+#[tactic(auto, unfolding(crate::specs::Places::no_match))]
 fn no_match(compared: u32) -> FirstMatch
     ensures { result ≡ places.no_match compared }
 {
     FirstMatch {
         place: Place(128),
-        compared: compared,
+        compared,
     }
 }
 
@@ -185,6 +177,7 @@ const ALL: u32 = 0xffffffff;
 
 // The first match in the banks of the word `part`, but for those with more than `most` filters before them. The lowest bank that is
 // left comes next.
+#[inline(always)]
 fn first_match(
     banks: &[u32; 28],
     w: u32,
@@ -200,7 +193,7 @@ fn first_match(
     let mut compared: u32 = 0;
     let mut left = part;
     'search: loop {
-        let i = u32::trailing_zeros(left);
+        let i = left.trailing_zeros();
         if 14 <= i {
             break no_match(compared);
         }
@@ -208,22 +201,18 @@ fn first_match(
             break no_match(compared);
         }
         let bank = Bank(i);
-        let a = first_word(banks, bank);
-        let b = second_word(banks, bank);
-        let mut j: u32 = 0;
-        while j < m {
+        let (a, b) = words_of(banks, bank);
+        for j in 0..m {
             let c = compare(k, a, b, j, w, short, compared);
             if c.takes {
-                let place = 4 * i + j;
                 break 'search FirstMatch {
-                    place: Place(place),
+                    place: Place(4 * i + j),
                     compared: c.compared,
                 };
             }
             compared = c.compared;
-            j += 1;
         }
-        left = left & !(1 << i);
+        left &= !(1 << i);
     }
 }
 
@@ -257,23 +246,22 @@ fn leading_of(g: Filters, banks: &[u32; 28], w: u32, short: u32, k: FilterClass)
     let f0 = x.place;
     if f0.0 < 128 {
         return Leading {
-            f0: f0,
+            f0,
             f1: Place(128),
-            rest: rest,
+            rest,
             compared: x.compared,
         };
     }
     let y = first_match(banks, w, short, k, rest, ALL);
-    let f1 = y.place;
-    let compared = x.compared + y.compared;
     Leading {
         f0: Place(128),
-        f1: f1,
+        f1: y.place,
         rest: 0,
-        compared: compared,
+        compared: x.compared + y.compared,
     }
 }
 
+#[tactic(auto, unfolding(crate::specs::Places::any_place))]
 fn any_place(p: Leading) -> bool
     ensures { result ≡ places.any_place p }
 {
@@ -290,18 +278,14 @@ struct BestClass {
 }
 
 // A class with the comparisons of those before it.
+#[tactic(auto, unfolding(crate::specs::Places::counted))]
 fn counted(p: Leading, compared: u32) -> Leading
     requires { (p.compared ≤ 112) × (compared ≤ 336) }
     ensures { result ≡ places.counted p compared }
 {
-    let f0 = p.f0;
-    let f1 = p.f1;
-    let all = p.compared + compared;
     Leading {
-        f0: f0,
-        f1: f1,
-        rest: p.rest,
-        compared: all,
+        compared: p.compared + compared,
+        ..p
     }
 }
 
@@ -350,6 +334,7 @@ fn best_class(g: Filters, banks: &[u32; 28], w: u32, short: u32) -> BestClass
 // ---- FIFO 1 after FIFO 0's match
 
 // The number of the filter at a place, 255 for none.
+#[tactic(auto, unfolding(crate::specs::Places::number_at))]
 fn number_at(g: Filters, f: Fifo, p: Place) -> u32
     requires { places.Within p }
     ensures { result ≡ places.number_at g f p }
@@ -388,45 +373,17 @@ fn can_win(g: Filters, n: u32, part: u32) -> u32
     let mut left = g.assignment;
     let mut number: u32 = 0;
     loop {
-        let i = u32::trailing_zeros(left);
+        let i = left.trailing_zeros();
         if (14 <= i) | (n <= number) {
             break part & !left;
         }
         number += width_at(g, Bank(i));
-        left = left & !(1 << i);
+        left &= !(1 << i);
     }
 }
 
-// A function for each class, so that the compiler makes a loop for each: a class that is looked up in the loop costs more than the
+// A call for each class, so that the compiler makes a loop for each: a class that is looked up in the loop costs more than the
 // comparisons.
-fn list32_match(banks: &[u32; 28], w: u32, short: u32, part: u32, most: u32) -> FirstMatch
-    requires { short ≡ short_word w }
-    ensures { places.FirstIn banks.now w List32 part most result }
-{
-    first_match(banks, w, short, FilterClass::List32, part, most)
-}
-
-fn mask32_match(banks: &[u32; 28], w: u32, short: u32, part: u32, most: u32) -> FirstMatch
-    requires { short ≡ short_word w }
-    ensures { places.FirstIn banks.now w Mask32 part most result }
-{
-    first_match(banks, w, short, FilterClass::Mask32, part, most)
-}
-
-fn list16_match(banks: &[u32; 28], w: u32, short: u32, part: u32, most: u32) -> FirstMatch
-    requires { short ≡ short_word w }
-    ensures { places.FirstIn banks.now w List16 part most result }
-{
-    first_match(banks, w, short, FilterClass::List16, part, most)
-}
-
-fn mask16_match(banks: &[u32; 28], w: u32, short: u32, part: u32, most: u32) -> FirstMatch
-    requires { short ≡ short_word w }
-    ensures { places.FirstIn banks.now w Mask16 part most result }
-{
-    first_match(banks, w, short, FilterClass::Mask16, part, most)
-}
-
 fn match_of_class(
     banks: &[u32; 28],
     w: u32,
@@ -439,10 +396,10 @@ fn match_of_class(
     ensures { places.FirstIn banks.now w k part most result }
 {
     match k {
-        FilterClass::List32 => list32_match(banks, w, short, part, most),
-        FilterClass::Mask32 => mask32_match(banks, w, short, part, most),
-        FilterClass::List16 => list16_match(banks, w, short, part, most),
-        FilterClass::Mask16 => mask16_match(banks, w, short, part, most),
+        FilterClass::List32 => first_match(banks, w, short, FilterClass::List32, part, most),
+        FilterClass::Mask32 => first_match(banks, w, short, FilterClass::Mask32, part, most),
+        FilterClass::List16 => first_match(banks, w, short, FilterClass::List16, part, most),
+        FilterClass::Mask16 => first_match(banks, w, short, FilterClass::Mask16, part, most),
     }
 }
 
@@ -491,13 +448,12 @@ fn after_fifo0(g: Filters, banks: &[u32; 28], w: u32, short: u32, b: BestClass) 
     if part == 0 {
         return alone;
     }
-    let most = std::num::wrapping_sub_u32(n0, 1);
+    let most = n0.wrapping_sub(1);
     let y = match_of_class(banks, w, short, k, part, most);
     let n1 = number_at(g, Fifo::F1, y.place);
-    let compared = p.compared + y.compared;
     SearchResult {
         winner: lower(n0, n1),
-        compared: compared,
+        compared: p.compared + y.compared,
     }
 }
 
@@ -519,10 +475,10 @@ pub fn search(
         };
     }
     let g = Filters {
-        mode: mode,
-        scale: scale,
-        assignment: assignment,
-        activation: activation,
+        mode,
+        scale,
+        assignment,
+        activation,
         finit: false,
     };
     let short = short_word(w);
@@ -550,10 +506,10 @@ pub fn winner(
 ) -> WinningFilter
     ensures { result ≡ places.winner_of (filtering.acceptance 14 (places.filters_of mode scale assignment activation) banks.now w) }
 {
-    let s = search(mode, scale, assignment, activation, banks, w);
-    s.winner
+    search(mode, scale, assignment, activation, banks, w).winner
 }
 
+#[tactic(auto, unfolding(crate::specs::Places::accepted_by))]
 pub fn accepted_by(x: WinningFilter) -> Option<(Fifo, FilterNumber)>
     ensures { result ≡ places.accepted_by x }
 {

@@ -5,7 +5,7 @@ ghost use Rattle.std.specs.Prelude.{◌≡◌, ◌<◌};
 ghost use Rattle.model.specs.Queue as queue;
 ghost use Rattle.model.specs.Mailboxes as mailboxes;
 
-use bits::{bit, one};
+use bits::bit;
 use model::{ByMailbox, Mailbox, MailboxState, Queue, Transmit};
 use queue::{aborted_all, holds, no_requests, requested_if};
 pub use queue::{at, put};
@@ -182,9 +182,9 @@ pub fn dropped(t: Transmit) -> Transmit
 // ---- TI as it is read
 
 // TXRQ, bit 0, reads 1 while the mailbox is not empty.
-#[tactic(auto, unfolding(model::specs::Mailboxes::ti_word))]
+#[tactic(auto, using(base::proofs::Flags::from_bool_one, base::proofs::Flags::one_small), unfolding(model::specs::Mailboxes::ti_word))]
 pub fn ti_word(t: Transmit, m: Mailbox) -> u32
     ensures { result ≡ mailboxes.ti_word t m }
 {
-    at(t.mailboxes, m).ti / 2 * 2 + one(holds(t.queue.order, m))
+    at(t.mailboxes, m).ti / 2 * 2 + u32::from(holds(t.queue.order, m))
 }

@@ -32,6 +32,6 @@ lower-requires c =
 pub returns : goal.returns
 returns c =
     let number = c.number_at-n0.ensures in
-    let tries = can_win-tried _ _ _ _ c.requires.1.0 c.requires.1.1 _ _ c.wrapping_sub_u32-most.result number c.can_win-part.ensures (omega arith) c.wrapping_sub_u32-most.ensures.value in
+    let tries = can_win-tried _ _ _ _ c.requires.1.0 c.requires.1.1 _ _ _ number c.can_win-part.ensures (omega arith) (omega (arith, number, number_at-le c.args.g F0 c.args.b.leading.f0)) in
     rw (c.lower.ensures, c.number_at-n1.ensures)
     (of_two _ _ _ _ c.requires.1.0 c.requires.1.1 _ _ _ _ number tries c.match_of_class-y.ensures)

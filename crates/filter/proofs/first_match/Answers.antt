@@ -33,13 +33,9 @@ compare-c-requires c =
     let to = at-lowest _ _ _ _ _ _ _ c.search.invariant (omega arith) in
     (c.requires, omega (arith, to.few, c.width-m.ensures, width-le c.args.k))
 
-pub overflow_add-place : goal.overflow_add-place
-overflow_add-place c =
-    omega (arith, c.width-m.ensures, width-le c.args.k)
-
 pub loop-j-preserved : goal.loop-j-preserved
 loop-j-preserved c =
-    let none = rw (c.compare-c.ensures.0, c.first_word-a.ensures, c.second_word-b.ensures) at c.if-c.false in
+    let none = rw (c.compare-c.ensures.0, c.words_of-a.ensures) at c.if-c.false in
     (omega arith, omega (arith, c.compare-c.ensures.1), below_more _ _ c.loop-j.invariant.2 none)
 
 pub search-smaller : goal.search-smaller
@@ -64,7 +60,7 @@ returns-then-c c =
     let to = at-lowest _ _ _ _ _ _ _ c.search.invariant (omega arith) in
     let tries = c.width-m.ensures ∙ sym (all-tried _ _ _ _ _ _ _ c.search.invariant (omega arith) (omega arith)) in
     let within = rw tries at c.loop-j-test.true in
-    let here = rw (c.compare-c.ensures.0, c.first_word-a.ensures, c.second_word-b.ensures) at c.if-c.true in
+    let here = rw (c.compare-c.ensures.0, c.words_of-a.ensures) at c.if-c.true in
     let small = width-le c.args.k in
     record {
       within = (omega (arith, c.width-m.ensures, small), λ h. omega (arith, c.width-m.ensures, small));

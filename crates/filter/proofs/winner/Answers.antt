@@ -6,4 +6,4 @@ use Rattle.filter.proofs.winner.Goals as goal
 
 pub returns : goal.returns
 unfolding result_of
-returns c = ap (λ (r : SearchResult). r.winner) c.search-s.ensures
+returns c = ap (λ (r : SearchResult). r.winner) c.search.ensures
