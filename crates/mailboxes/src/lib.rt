@@ -182,7 +182,7 @@ pub fn dropped(t: Transmit) -> Transmit
 // ---- TI as it is read
 
 // TXRQ, bit 0, reads 1 while the mailbox is not empty.
-#[tactic(auto, using(base::proofs::Flags::from_bool_one, base::proofs::Flags::one_small), unfolding(model::specs::Mailboxes::ti_word))]
+#[tactic(auto, unfolding(model::specs::Mailboxes::ti_word))]
 pub fn ti_word(t: Transmit, m: Mailbox) -> u32
     ensures { result ≡ mailboxes.ti_word t m }
 {
