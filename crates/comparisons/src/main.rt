@@ -61,9 +61,9 @@ fn row(record: u64, compared: u64) -> Line {
 
 fn last_line(n: Counts) -> Line {
     Line::empty()
-        .said(b"% searches, ", 0, n.searches)
-        .said(b"% filters compared, ", 0, n.compared)
-        .said(b"% at most\n", 0, n.most)
+        .said(b"% searches, ", n.searches)
+        .said(b"% filters compared, ", n.compared)
+        .said(b"% at most\n", n.most)
 }
 
 // ---- a turn of the loop

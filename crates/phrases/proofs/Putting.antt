@@ -13,28 +13,12 @@ use Rattle.names.specs.Table.{place}
 use Rattle.names.specs.declared.rows.Found.{Found}
 use borrow.Author.Tests.{le-leb, lt-leb, eq-eqb, ne_eqb}
 use Rattle.base.specs.Base.{pick}
-use Rattle.text.specs.Lines.{added, put_all, put_both}
+use Rattle.text.specs.Lines.{put_all, put_both}
+use Rattle.text.proofs.Putting.{on, ended}
 use Rattle.text.specs.declared.Line.{Line}
 use Rattle.phrases.specs.Names.{letter_text, name_on, name_text, field_value, placed, number_of, field_text, row_on, row_fields, fields_on, all_text, rest_of, with_field, with_fields}
 use Rattle.phrases.specs.Frames.{pair_text, pairs_text}
 use Rattle.phrases.specs.declared.Said.{Said}
-
--- one text behind another
-pub behind : (l m r : Line) (a b : List ℕ) → m ≡ put_all l a → r ≡ put_all m b → r ≡ put_all l (a ++ b)
-behind l m r a b e f = f ∙ (ap (λ (x : Line). put_all x b) e ∙ put_both l a b)
-
--- a byte is a text
-pub one_byte : (l m : Line) (b : ℕ) → m ≡ added l b → m ≡ put_all l (b ∷ [])
-unfolding put_all
-one_byte l m b e = e
-
--- what is still to be put, with one part of it put
-on : (m r z : Line) (a b c : List ℕ) → c ≡ a ++ b → r ≡ put_all m a → put_all m c ≡ z → put_all r b ≡ z
-on m r z a b c s e k = ap (λ (x : Line). put_all x b) e ∙ (put_both m a b ∙ (sym (ap (put_all m) s) ∙ k))
-
-ended : (m z : Line) (c : List ℕ) → c ≡ [] → put_all m c ≡ z → m ≡ z
-unfolding put_all
-ended m z c s k = sym (ap (put_all m) s) ∙ k
 
 module _ (i j : ℕ) where
   left : i < j → j - i ≡ suc (j - (i + 1))
@@ -63,10 +47,6 @@ module _ (m z : Line) (t : List ℕ) (index k : ℕ) where
   pub name-ended : 8 ≤ k → put_all m (name_on t index k (8 - k)) ≡ z → m ≡ z
   unfolding name_on
   name-ended h q = ended m z (name_on t index k (8 - k)) (ap (name_on t index k) (none_left k 8 h)) q
-
-pub letter_is : (b i : ℕ) → (b ≡ 37 → ⊥) → letter_text b i ≡ b ∷ []
-unfolding letter_text
-letter_is b i h = rw (ne_eqb b 37 h)
 
 -- a name is in the first eight bytes of its row
 eight : (t : List ℕ) (index k n : ℕ) → k + n ≤ 8 → name_on (take 8 t) index k n ≡ name_on t index k n

@@ -11,7 +11,7 @@ use text::Line;
 
 // ---- bytes
 
-#[tactic(auto, using(crate::proofs::Putting::behind), unfolding(crate::specs::Frames::pair_text, text::specs::Lines::put_all))]
+#[tactic(auto, using(text::proofs::Putting::behind), unfolding(crate::specs::Frames::pair_text, text::specs::Lines::put_all))]
 fn pair(l: Line, b: u8, blank: bool) -> Line
     ensures { result ≡ lines.put_all l (framing.pair_text blank b) }
 {
@@ -34,7 +34,7 @@ fn pairs(l: Line, s: &[u8], blank: bool) -> Line
     line
 }
 
-#[tactic(auto, using(crate::proofs::Putting::behind), unfolding(crate::specs::Frames::bytes_text))]
+#[tactic(auto, using(text::proofs::Putting::behind), unfolding(crate::specs::Frames::bytes_text))]
 pub(crate) fn bytes(l: Line, s: &[u8]) -> Line
     ensures { result ≡ lines.put_all l (framing.bytes_text s.now) }
 {
@@ -83,7 +83,7 @@ fn identifier(l: Line, w: u32) -> Line
     }
 }
 
-#[tactic(auto, using(crate::proofs::Putting::behind), unfolding(crate::specs::Frames::remote_text, text::specs::Lines::put_all))]
+#[tactic(auto, using(text::proofs::Putting::behind), unfolding(crate::specs::Frames::remote_text, text::specs::Lines::put_all))]
 fn remote(l: Line, length: u8) -> Line
     ensures { result ≡ lines.put_all l (framing.remote_text length) }
 {
@@ -115,7 +115,7 @@ fn payload(l: Line, x: Frame) -> Line
 }
 
 // A length code above 8.
-#[tactic(auto, using(crate::proofs::Putting::behind), unfolding(crate::specs::Frames::code_text, text::specs::Lines::put_all))]
+#[tactic(auto, using(text::proofs::Putting::behind), unfolding(crate::specs::Frames::code_text, text::specs::Lines::put_all))]
 fn code(l: Line, length: u8) -> Line
     ensures { result ≡ lines.put_all l (framing.code_text length) }
 {
@@ -146,7 +146,7 @@ fn remark(l: Line, x: Frame) -> Line
     pairs(b.put(b", data"), &s[8..16], true)
 }
 
-#[tactic(auto, using(crate::proofs::Putting::behind), unfolding(crate::specs::Frames::unworded_text))]
+#[tactic(auto, using(text::proofs::Putting::behind), unfolding(crate::specs::Frames::unworded_text))]
 fn unworded(l: Line, x: Frame) -> Line
     ensures { result ≡ lines.put_all l (framing.unworded_text x) }
 {

@@ -27,8 +27,7 @@ pub fn name(l: Line, row: usize, index: u32) -> Line
     for c in &text[..8] {
         match *c {
             0..=b' ' => return line,
-            b'%' => line = line.decimal(u64::from(index)),
-            letter => line = line.byte(letter),
+            c => line = line.letter(c, u64::from(index)),
         }
     }
     line
@@ -55,7 +54,7 @@ struct Said {
 }
 
 // The number of a field of several bits.
-#[tactic(auto, using(crate::proofs::Putting::behind), unfolding(crate::specs::Names::amount_text, text::specs::Lines::put_all))]
+#[tactic(auto, using(text::proofs::Putting::behind), unfolding(crate::specs::Names::amount_text, text::specs::Lines::put_all))]
 fn amount(l: Line, size: u32, digits: u32, n: u32) -> Line
     ensures { result ≡ lines.put_all l (naming.amount_text size digits n) }
 {
@@ -159,14 +158,14 @@ pub fn fields(l: Line, offset: u32, w: u32) -> Line
 // ---- steps
 
 // The word of a step, with a blank behind it.
-#[tactic(auto, using(crate::proofs::Putting::behind), unfolding(text::specs::Lines::put_all))]
+#[tactic(auto, using(text::proofs::Putting::behind), unfolding(text::specs::Lines::put_all))]
 fn begun(l: Line, row: usize) -> Line
     ensures { result ≡ lines.put_all l (naming.leading row) }
 {
     name(l, row, 0).byte(b' ')
 }
 
-#[tactic(auto, using(crate::proofs::Putting::behind), unfolding(text::specs::Lines::put_all))]
+#[tactic(auto, using(text::proofs::Putting::behind), unfolding(text::specs::Lines::put_all))]
 fn number(l: Line, w: u32) -> Line
     ensures { result ≡ lines.put_all l (steps.number_text w) }
 {
@@ -188,7 +187,7 @@ fn written(l: Line, offset: u32, w: u32, full: bool) -> Line
     }
 }
 
-#[tactic(auto, using(crate::proofs::Putting::behind), unfolding(crate::specs::Steps::write_text))]
+#[tactic(auto, using(text::proofs::Putting::behind), unfolding(crate::specs::Steps::write_text))]
 fn write(l: Line, offset: u32, w: u32, full: bool) -> Line
     ensures { result ≡ lines.put_all l (steps.write_text offset w full) }
 {
@@ -206,7 +205,7 @@ fn outcome(l: Line, res: u8) -> Line
     }
 }
 
-#[tactic(auto, using(crate::proofs::Putting::behind), unfolding(crate::specs::Steps::error_text, text::specs::Lines::put_all))]
+#[tactic(auto, using(text::proofs::Putting::behind), unfolding(crate::specs::Steps::error_text, text::specs::Lines::put_all))]
 fn error(l: Line, code: u8, by: u8) -> Line
     ensures { result ≡ lines.put_all l (steps.error_text code by) }
 {
@@ -215,7 +214,7 @@ fn error(l: Line, code: u8, by: u8) -> Line
 }
 
 // A step, without line end. `full`: with the number of a written word in front of its fields.
-#[tactic(auto, using(crate::proofs::Putting::behind), unfolding(crate::specs::Steps::step_text))]
+#[tactic(auto, using(text::proofs::Putting::behind), unfolding(crate::specs::Steps::step_text))]
 pub fn step(l: Line, e: Step, full: bool) -> Line
     ensures { result ≡ lines.put_all l (steps.step_text e full) }
 {

@@ -54,10 +54,10 @@ fn with_reason(l: Line, why: Refusal, rest: &[u8]) -> Line {
             .put(b", a reply has 0x81"),
         (Refusal::WrongLength, [_, low, high, ..]) => {
             let length = u16::from_le_bytes([*low, *high]);
-            l.said(b"length %, a reply has 6", 0, u64::from(length))
+            l.said(b"length %, a reply has 6", u64::from(length))
         }
-        (_, [_, _, _, body @ ..]) => { l.said(b"short body, % bytes of 6", 0, body.len() as u64) }
-        _ => l.said(b"short header, % bytes of 3", 0, rest.len() as u64),
+        (_, [_, _, _, body @ ..]) => { l.said(b"short body, % bytes of 6", body.len() as u64) }
+        _ => l.said(b"short header, % bytes of 3", rest.len() as u64),
     }
 }
 
@@ -126,9 +126,9 @@ impl Session {
     // The number (from 1) and the first byte (from 0) of a reply that can't be read, and why.
     fn complain(&self, why: Refusal) {
         let l = Line::empty()
-            .said(b"replies: reply %", 0, self.replies.wrapping_add(1))
-            .said(b" at byte %: ", 0, self.bytes)
-            .said(b"malformed %: ", 0, u64::from(u8::from(why)));
+            .said(b"replies: reply %", self.replies.wrapping_add(1))
+            .said(b" at byte %: ", self.bytes)
+            .said(b"malformed %: ", u64::from(u8::from(why)));
         let l = with_reason(l, why, self.input.unread()).put(b"\n");
         let _ = self.stderr.write_all(l.as_bytes());
     }

@@ -1,11 +1,11 @@
 -- Bytes put on a line one by one, and numbers as their digits.
-use Rattle.std.proofs.Common.{◌≡◌, ℕ, zero, suc, ◌+◌, ◌-◌, ◌*◌, ◌/◌, ◌%◌, ◌^◌, ◌<◌, ◌≤◌, Bool, true, false, ltb, List, [], ◌∷◌, length, get_or, drop, sym, refl, ap, ◌∙◌, subst, lt_of_lt_of_le, mod-eq_of_lt, pow-suc, add-one, arith, drop_of_length-le, drop-cons, pow_mono, le-ltb, lt-ltb}
+use Rattle.std.proofs.Common.{◌≡◌, ℕ, zero, suc, ◌+◌, ◌-◌, ◌*◌, ◌/◌, ◌%◌, ◌^◌, ◌<◌, ◌≤◌, Bool, true, false, ltb, List, [], ◌∷◌, ◌++◌, length, get_or, drop, sym, refl, ap, ◌∙◌, subst, lt_of_lt_of_le, mod-eq_of_lt, pow-suc, add-one, arith, drop_of_length-le, drop-cons, pow_mono, le-ltb, lt-ltb}
 use native.Mathlib.Nat.{one-le-pow, div-eq_of_lt}
 use lib.Seq.{take-set-le}
 use Rattle.io.specs.Digits as io
-use Rattle.text.specs.Lines.{Extends, added, put_all}
+use Rattle.text.specs.Lines.{Extends, added, put_all, put_both}
 use Rattle.text.proofs.Extending.{extends_refl, extends_trans}
-use Rattle.text.specs.Numbers.{digit_at, digits, decimal_on}
+use Rattle.text.specs.Numbers.{letter, said, digit_at, digits, decimal_on}
 use Rattle.text.specs.declared.Line.{Line}
 
 pub added_extends : (l : Line) (b : ℕ) → Extends l (added l b)
@@ -24,6 +24,24 @@ put_extends l (b ∷ s) = extends_trans l (added l b) (put_all (added l b) s) (a
 pub says_extends : (l r : Line) (s : List ℕ) → r ≡ put_all l s → Extends l r
 says_extends l r s e = subst (λ (x : Line). Extends l x) (sym e) (put_extends l s)
 
+-- ---- texts one behind the other
+
+pub behind : (l m r : Line) (a b : List ℕ) → m ≡ put_all l a → r ≡ put_all m b → r ≡ put_all l (a ++ b)
+behind l m r a b e f = f ∙ (ap (λ (x : Line). put_all x b) e ∙ put_both l a b)
+
+-- a byte is a text
+pub one_byte : (l m : Line) (b : ℕ) → m ≡ added l b → m ≡ put_all l (b ∷ [])
+unfolding put_all
+one_byte l m b e = e
+
+-- what is still to be put, with one part of it put
+pub on : (m r z : Line) (a b c : List ℕ) → c ≡ a ++ b → r ≡ put_all m a → put_all m c ≡ z → put_all r b ≡ z
+on m r z a b c s e k = ap (λ (x : Line). put_all x b) e ∙ (put_both m a b ∙ (sym (ap (put_all m) s) ∙ k))
+
+pub ended : (m z : Line) (c : List ℕ) → c ≡ [] → put_all m c ≡ z → m ≡ z
+unfolding put_all
+ended m z c s k = sym (ap (put_all m) s) ∙ k
+
 -- ---- a text
 
 module _ (m z : Line) (s : List ℕ) (i : ℕ) where
@@ -34,6 +52,17 @@ module _ (m z : Line) (s : List ℕ) (i : ℕ) where
   pub put_ended : length s ≤ i → put_all m (drop i s) ≡ z → m ≡ z
   unfolding put_all
   put_ended h k = sym (ap (put_all m) (drop_of_length-le s h)) ∙ k
+
+module _ (m z : Line) (s : List ℕ) (n i : ℕ) where
+  pub said_on : (r : Line) → i < length s → r ≡ put_all m (letter (get_or s i 0) n) → put_all m (said (drop i s) n) ≡ z → put_all r (said (drop (i + 1) s) n) ≡ z
+  unfolding said
+  said_on r h e k =
+      on m r z (letter (get_or s i 0) n) (said (drop (i + 1) s) n) (said (drop i s) n)
+      (ap (λ (t : List ℕ). said t n) (drop-cons s i 0 h ∙ ap (λ (j : ℕ). get_or s i 0 ∷ drop j s) (sym (add-one i)))) e k
+
+  pub said_ended : length s ≤ i → put_all m (said (drop i s) n) ≡ z → m ≡ z
+  unfolding said
+  said_ended h k = ended m z (said (drop i s) n) (ap (λ (t : List ℕ). said t n) (drop_of_length-le s h)) k
 
 -- ---- hex digits
 

@@ -1,5 +1,5 @@
 -- Numbers as text.
-use Rattle.std.specs.Prelude.{ℕ, zero, suc, ◌+◌, ◌*◌, ◌/◌, ◌%◌, ◌^◌, List, [], ◌∷◌, ◌++◌, nat_lt}
+use Rattle.std.specs.Prelude.{ℕ, zero, suc, eqb, ◌+◌, ◌*◌, ◌/◌, ◌%◌, ◌^◌, List, [], ◌∷◌, ◌++◌, nat_lt}
 use Rattle.base.specs.Base.{pick}
 
 -- 0 to 9, A to F
@@ -27,3 +27,11 @@ decimal_on (suc k) n = pick (nat_lt n 10) ((48 + n) ∷ []) (decimal_on k (n / 1
 -- a number of 64 bits has 20 digits at most
 abbrev pub decimal : ℕ → List ℕ
 decimal n = decimal_on 20 n
+
+-- a byte of a text that tells a number: a percent sign is the number
+abbrev pub letter : ℕ → ℕ → List ℕ
+letter b n = pick (eqb b 37) (decimal n) (b ∷ [])
+
+unfoldable pub said : List ℕ → ℕ → List ℕ
+said [] n = []
+said (b ∷ s) n = letter b n ++ said s n

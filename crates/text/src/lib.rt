@@ -128,38 +128,35 @@ impl Line {
         self.put(b"0x").digits(w, k)
     }
 
-    // ---- a part of a table; each part ends with a bar
+    // ---- a text with a number in it
 
     // A byte, or the number in place of a percent sign.
-    #[tactic(auto, using(crate::proofs::Extending::extends_refl, crate::proofs::Extending::extends_trans))]
-    fn said_byte(self, b: u8, n: u64) -> Self
-        ensures { lines.Extends self result }
+    #[tactic(auto, unfolding(crate::specs::Lines::put_all))]
+    pub fn letter(self, b: u8, n: u64) -> Self
+        ensures extends { lines.Extends self result }
+        ensures value { result ≡ lines.put_all self (numbers.letter b n) }
     {
-        if b == b'%' {
-            return self.decimal(n);
+        match b {
+            b'%' => self.decimal(n),
+            _ => self.byte(b),
         }
-        self.byte(b)
     }
 
-    // Part `which` of a table, with the number in place of each percent sign.
-    #[tactic(auto, using(crate::proofs::Extending::extends_refl, crate::proofs::Extending::extends_trans))]
-    pub fn said(self, table: &[u8], which: u32, n: u64) -> Self
-        ensures { lines.Extends self result }
+    // A text, with the number in place of each percent sign.
+    pub fn said(self, text: &[u8], n: u64) -> Self
+        ensures extends { lines.Extends self result }
+        ensures value { result ≡ lines.put_all self (numbers.said text.now n) }
     {
         let mut line = self;
-        let mut part: u32 = 0;
-        for b in table {
-            if *b == b'|' {
-                part = part.wrapping_add(1);
-            } else if part == which {
-                line = line.said_byte(*b, n);
-            }
+        for b in text {
+            line = line.letter(*b, n);
         }
         line
     }
 }
 
 // Digit j of a word, counted from the lowest.
+#[tactic(auto, using(crate::proofs::Putting::no_digit_lem))]
 fn digit_at(w: u32, j: u32) -> u8
     ensures { result ≡ numbers.digit_at w j }
 {

@@ -11,7 +11,11 @@ fn with_lines(l: Line, x: Expected, up: u8) -> Line {
     if x.lines.is_none() {
         return l;
     }
-    let a = l.said(b"lines|, lines", u32::from(x.response.is_some()), 0);
+    let a = if x.response.is_some() {
+        l.put(b", lines")
+    } else {
+        l.put(b"lines")
+    };
     wording::lines_up(a, up, b" none")
 }
 
@@ -21,11 +25,11 @@ fn with_word(l: Line, w: u32) -> Line {
 
 // Which line expects what.
 fn wanted(line: u64, x: Expected) -> Line {
-    let a = Line::empty().said(b"line %: expected ", 0, line);
+    let a = Line::empty().said(b"line %: expected ", line);
     let b = match x.response {
         None => a,
         Some(Response { code: 0, word }) => with_word(a, word),
-        Some(Response { code, .. }) => a.said(b"refused %", 0, u64::from(code)),
+        Some(Response { code, .. }) => a.said(b"refused %", u64::from(code)),
     };
     with_lines(b, x, x.lines.unwrap_or(0))
 }
@@ -48,7 +52,7 @@ impl Session {
         let a = wanted(line, x);
         match self.last {
             Last::Nothing => a.put(b"; there is no step above\n"),
-            Last::Behind => a.said(b"; the script stopped before, at byte %\n", 0, self.bytes),
+            Last::Behind => a.said(b"; the script stopped before, at byte %\n", self.bytes),
             _ => {
                 let b = a.put(b"; came ");
                 let c = if x.response.is_some() {

@@ -236,8 +236,8 @@ impl Session {
         }
         self.tell_unsaid();
         let l = Line::empty()
-            .said(b"% expectations checked, ", 0, self.checked)
-            .said(b"% failed\n", 0, self.failures);
+            .said(b"% expectations checked, ", self.checked)
+            .said(b"% failed\n", self.failures);
         self.store(l);
         ControlFlow::Break(())
     }

@@ -1,6 +1,7 @@
 use Rattle.std.proofs.Common.{ℕ, ◌-◌, ap, ◌∙◌, refl}
 use Rattle.text.specs.Lines.{put_all}
-use Rattle.phrases.proofs.Putting.{behind, one_byte, hidden, shown}
+use Rattle.text.proofs.Putting.{behind, one_byte}
+use Rattle.phrases.proofs.Putting.{hidden, shown}
 use Rattle.phrases.proofs.Words.{number-said, not_shown, is_shown}
 use Rattle.phrases.proofs.with_field.Goals as goal
 

@@ -2,7 +2,7 @@ use Rattle.std.proofs.Common.{sym, ap, ◌∙◌, eq-eqb, ne_eqb}
 use Rattle.phrases.specs.Names.{said_of, fields_text, is_said}
 use Rattle.phrases.specs.Steps.{written_text}
 use Rattle.phrases.specs.declared.Said.{Said}
-use Rattle.phrases.proofs.Putting.{behind}
+use Rattle.text.proofs.Putting.{behind}
 use Rattle.phrases.proofs.written.Goals as goal
 use Rattle.phrases.proofs.written.Goals.{else-said-eq0-via-then-said-eq0+else-w-ne0, else-said-eq0-via-else-said-eq0}
 

@@ -2,7 +2,7 @@ use mathlib.Core.Path.{◌∙◌}
 use Rattle.model.specs.Records.{field_bytes, bytes_of}
 use Rattle.names.specs.Table.{bytes}
 use Rattle.phrases.specs.Frames.{remark_text}
-use Rattle.phrases.proofs.Putting.{behind}
+use Rattle.text.proofs.Putting.{behind}
 use Rattle.phrases.proofs.frames.remark.Goals as goal
 
 pub returns : goal.returns

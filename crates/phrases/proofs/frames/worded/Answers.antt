@@ -1,5 +1,5 @@
 use Rattle.phrases.specs.Frames.{worded_text}
-use Rattle.phrases.proofs.Putting.{behind}
+use Rattle.text.proofs.Putting.{behind}
 use Rattle.phrases.proofs.frames.worded.Goals as goal
 
 pub returns : goal.returns
