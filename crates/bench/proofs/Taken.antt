@@ -20,7 +20,7 @@ step-taken z e s z' h k =
 
 pub record-taken : (z : Controller) (t : List ℕ) (p : ℕ) (space : List ℕ) (w : ℕ) (s : CoreReplayed) (z' : Controller) (space' : List ℕ)
     → s ≡ core_record_in z t p space w → z' ≡ next_controller z s.core s.banks → space' ≡ placed w (reply_of (way.whole z s)) space
-    → RecordTaken (record_in z t p space w) w space (record { place = s.place; ended = s.ended; answer = s.answer }) z' space'
+    → RecordTaken (record_in z t p space w) w space s.recorded z' space'
 record-taken z t p space w s z' space' h k g =
     let e = ap (way.whole z) h ∙ way.whole-record z t p (length space - w) in
     (ap recorded_of e, (k ∙ ap (λ (x : Replayed). x.controller) e, g ∙ ap (λ (x : Replayed). placed w (reply_of x) space) e))

@@ -12,7 +12,7 @@ use Rattle.model.specs.declared.Controller.{Controller}
 use Rattle.model.specs.declared.Replayed.{Replayed}
 use Rattle.bench.proofs.Rounds.{reply_bytes_lem, answered-bytes, after, Going, going-begun, more, bytes_fit, further, place-within, going_on, last_round, result}
 use Rattle.bench.specs.declared.Progress.{Progress}
-use Rattle.bench.specs.declared.Recorded.{Recorded}
+use Rattle.script.specs.declared.Recorded.{Recorded}
 use Rattle.bench.specs.Lent.{recorded_of, placed, record_in, reply_bytes, begun, progressed, is_over, finished}
 use Rattle.bench.proofs.Placed.{part_length, placed-part}
 

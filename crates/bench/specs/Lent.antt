@@ -15,8 +15,8 @@ use Rattle.writes.specs.Places.{changed}
 use Rattle.writes.specs.declared.BankWrite.{BankWrite}
 use Rattle.script.specs.OneWay.{core_replayed}
 use Rattle.script.specs.declared.CoreReplayed.{CoreReplayed}
+use Rattle.script.specs.declared.Recorded.{Recorded}
 use Rattle.bench.specs.declared.Progress.{Progress}
-use Rattle.bench.specs.declared.Recorded.{Recorded}
 
 -- a step taken on a lent controller z: the answer, and the controller afterwards
 abbrev pub Taken : Controller → Step → Answer → Controller → Type 0

@@ -9,7 +9,7 @@ ghost use Rattle.script.specs.OneWay as way;
 ghost use Rattle.bench.specs.Lent as lent;
 
 use model::{Answer, Controller, Core, Frame, Replay, Step};
-use script::CoreReplayed;
+use script::{CoreReplayed, Recorded};
 use writes::BankWrite;
 
 // The next controller, stored whole; the words of the banks only where they change.
@@ -98,14 +98,6 @@ pub fn receive_error(c: &mut Controller, code: u8, by: u8) -> Answer
 
 // ---- one record of a script
 
-// What one record gives, beside the controller.
-#[derive(Clone, Copy)]
-pub struct Recorded {
-    pub place: usize,
-    pub ended: bool,
-    pub answer: Answer,
-}
-
 // One record by value, its reply from place `written` of the reply space on. A place past the space counts as its end.
 fn replayed_at(
     z: Controller,
@@ -132,11 +124,7 @@ pub fn replay_record(
 {
     let s = replayed_at(*c, script, place, replies, written);
     store(c, s.core, s.banks);
-    Recorded {
-        place: s.place,
-        ended: s.ended,
-        answer: s.answer,
-    }
+    s.recorded
 }
 
 // ---- a whole script

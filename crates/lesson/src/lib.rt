@@ -9,7 +9,7 @@ ghost use Rattle.lesson.specs.Turns as turns;
 
 use model::{Answer, Controller, Replay, Replayed};
 use pieces::{Position, Turn};
-use script::CoreReplayed;
+use script::{CoreReplayed, Recorded};
 use writer::OPENING;
 
 // Whether the first three bytes are the opening.
@@ -40,14 +40,19 @@ fn refused(z: Controller, place: usize, reply: &mut [u8]) -> Replayed
 fn with_banks(z: Controller, a: CoreReplayed) -> Replayed
     ensures { result ≡ way.whole z a }
 {
-    let Answer { code, lines, word } = a.answer;
+    let Recorded {
+        place,
+        ended,
+        answer,
+    } = a.recorded;
+    let Answer { code, lines, word } = answer;
     Replayed {
         controller: Controller {
             core: a.core,
             banks: writes::banks_after(z.banks, a.banks),
         },
-        place: a.place,
-        ended: a.ended,
+        place,
+        ended,
         code,
         lines,
         word,

@@ -16,6 +16,30 @@ pub struct Position {
     pub bytes: u64,
 }
 
+impl Position {
+    // Before the first piece.
+    pub fn begun(controller: Controller) -> Self
+        ensures { result ≡ turns.begun controller }
+    {
+        Position {
+            controller,
+            records: 0,
+            bytes: 0,
+        }
+    }
+
+    // Behind what a replay from here has passed.
+    fn behind(self, x: Replay) -> Self
+        ensures { result ≡ turns.behind self x }
+    {
+        Position {
+            controller: x.controller,
+            records: self.records.wrapping_add(x.records as u64),
+            bytes: self.bytes.wrapping_add(x.place as u64),
+        }
+    }
+}
+
 // What a piece gives: the position behind it, the place in it from which on it is left for the next piece, how many bytes of
 // replies are sent, whether the replay goes on with the next piece, and the end mark and code with which it stopped.
 #[derive(Clone, Copy)]
@@ -26,17 +50,6 @@ pub struct Turn {
     pub going: bool,
     pub ended: bool,
     pub code: u8,
-}
-
-// Before the first piece.
-pub fn begun(z: Controller) -> Position
-    ensures { result ≡ turns.begun z }
-{
-    Position {
-        controller: z,
-        records: 0,
-        bytes: 0,
-    }
 }
 
 // Whether the replay of a piece goes on with the next: it stopped at the end of a piece that is not the last, or at a record that
@@ -55,23 +68,13 @@ fn sent(going: bool, records: usize, written: usize) -> usize
     if going { 9 * records } else { written }
 }
 
-fn behind(k: Position, x: Replay) -> Position
-    ensures { result ≡ turns.behind k x }
-{
-    Position {
-        controller: x.controller,
-        records: k.records.wrapping_add(x.records as u64),
-        bytes: k.bytes.wrapping_add(x.place as u64),
-    }
-}
-
 fn turned(k: Position, last: bool, x: Replay) -> Turn
     requires { 9 * x.records ≤ x.written }
     ensures { result ≡ turns.turned k last x }
 {
     let going = goes_on(last, x.ended, x.code);
     Turn {
-        position: behind(k, x),
+        position: k.behind(x),
         place: x.place,
         sent: sent(going, x.records, x.written),
         going,

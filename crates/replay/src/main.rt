@@ -27,7 +27,7 @@ struct Session {
 impl Session {
     fn begun(rt: &HostRuntime, lesson: bool) -> Self {
         Self {
-            position: pieces::begun(controller::reset()),
+            position: Position::begun(controller::reset()),
             opened: !lesson,
             stdin: rt.stdin(),
             stdout: rt.stdout(),

@@ -92,10 +92,12 @@ one_way (Ok (Some (e, q))) z n p space = go (ltb space 9)
 abbrev pub after_core : Reading → ℕ → ℕ → CoreStepped → CoreReplayed
 after_core x n p a = record {
   core = a.core;
-  place = place_of x n p;
-  ended = is_end x;
-  answer = record { code = code_of x a.answer.code; lines = a.answer.lines; word = a.answer.word };
   banks = a.banks;
+  recorded = record {
+    place = place_of x n p;
+    ended = is_end x;
+    answer = record { code = code_of x a.answer.code; lines = a.answer.lines; word = a.answer.word };
+  };
 }
 
 -- what the record at place p gives, with so much space for its reply
@@ -107,11 +109,11 @@ core_replayed z s p space =
 abbrev pub whole : Controller → CoreReplayed → Replayed
 whole z r = record {
   controller = record { core = r.core; banks = changed z.banks r.banks };
-  place = r.place;
-  ended = r.ended;
-  code = r.answer.code;
-  lines = r.answer.lines;
-  word = r.answer.word;
+  place = r.recorded.place;
+  ended = r.recorded.ended;
+  code = r.recorded.answer.code;
+  lines = r.recorded.answer.lines;
+  word = r.recorded.answer.word;
 }
 
 pub whole-record : (z : Controller) (s : List ℕ) (p space : ℕ) → whole z (core_replayed z s p space) ≡ record_at z s p space

@@ -93,14 +93,20 @@ fn write_answer(reply: &mut [u8], ended: bool, answer: Answer)
     write_reply(reply, answer);
 }
 
+// What one record gives beside the state: the place behind it, whether the script was at its end, the answer.
+#[derive(Clone, Copy)]
+pub struct Recorded {
+    pub place: usize,
+    pub ended: bool,
+    pub answer: Answer,
+}
+
 // What one record gives, the words of the banks by what its step does to them.
 #[derive(Clone, Copy)]
 pub struct CoreReplayed {
     pub core: Core,
-    pub place: usize,
-    pub ended: bool,
-    pub answer: Answer,
     pub banks: BankWrite,
+    pub recorded: Recorded,
 }
 
 // One record: it is read, its step is done, and its reply is written to the first nine bytes of the reply space. The
@@ -119,10 +125,12 @@ pub fn core_replayed(z: Controller, script: &[u8], place: usize, reply: &mut [u8
     write_answer(reply, ended, answer);
     CoreReplayed {
         core: s.core,
-        place: place_of(x, script.len(), place),
-        ended,
-        answer,
         banks: s.banks,
+        recorded: Recorded {
+            place: place_of(x, script.len(), place),
+            ended,
+            answer,
+        },
     }
 }
 
