@@ -7,7 +7,8 @@ ghost use Rattle.expected.specs.Holds as expectations;
 
 use model::Answer;
 
-// What a step answers by itself; a refusal has the word 0.
+// What a step answers by itself; a refusal has the word 0. Not a word or a refusal: the program trace takes any code with any word, and
+// compares both.
 #[derive(Clone, Copy, Debug, PartialEq, Eq)]
 pub struct Response {
     pub code: u8,

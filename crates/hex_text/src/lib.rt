@@ -55,6 +55,7 @@ pub struct Piece {
 
 // ---- one character
 
+// The digits are the ranges of `digit_of` in names, which tells other classes and stands on nothing that hex text needs.
 #[tactic(auto, unfolding(crate::specs::Text::kind_of))]
 fn kind_of(c: u8) -> Kind
     ensures { result ≡ hex.kind_of c }
@@ -187,7 +188,8 @@ impl Reader {
         }
     }
 
-    // A piece of text, or all of it. Its bytes are written over its start; the rest of the piece is as it was.
+    // A piece of text, or all of it. Its bytes are written over its start; the rest of the piece is as it was. It is read and written in
+    // the same slice, so that only an index can go over it.
     pub fn unhexed(self, text: &mut [u8]) -> Piece
         ensures value { result ≡ hex.piece_of (hex.unhexed self text.old) }
         ensures count_in_bounds { result.count ≤ length text.new }

@@ -7,6 +7,8 @@ use Rattle.model.specs.declared.Answer.{Answer}
 use Rattle.model.specs.declared.WideStep.{WideStep}
 use Rattle.model.specs.declared.WideStep.TheVariants.{Reset, Read, Write, Idle, BitTimes, Activity, Start, Outcome, Receive, ReceiveError}
 use Rattle.lines.specs.Meanings.{meaning_numbers, bad}
+use Rattle.expected.specs.Bytes as items
+use Rattle.std.proofs.lemmas.Nat.{from_le_bytes-to_le_bytes_4}
 use Rattle.expected.specs.Holds as expectations
 use Rattle.expected.specs.Holds.{response_holds, lines_hold}
 use Rattle.expected.specs.declared.Response.{Response}
@@ -16,7 +18,7 @@ use Rattle.lines.specs.declared.Rule.TheVariants.{WantsStep, WantsEnd, WantsNumb
 use Rattle.lines.specs.declared.Fault.{Fault}
 use Rattle.lines.specs.declared.Meaning.{Meaning}
 use Rattle.lines.specs.declared.Meaning.TheVariants.{Step, Bytes, Expect, Repeat, Done}
-use Rattle.lesson_promises.specs.Reading.{Apart, Holds}
+use Rattle.lesson_promises.specs.Reading.{Apart, Holds, WordFits, BytesBack}
 
 -- ---- meanings
 
@@ -149,3 +151,16 @@ holds x a = record {
   both = λ r up e f c w l. rw (e, f, eq-eqb r.code a.code c, eq-eqb r.word a.word w, eq-eqb up a.lines l);
   nothing = λ e f. rw (e, f);
 }
+
+-- ---- its bytes
+
+bytes-back : (r : Option Response) (up : Option ℕ) → WordFits r
+    → items.expected_of (items.bytes_of (record { response = r; lines = up })) ≡ record { response = r; lines = up }
+unfolding items.bytes_of items.expected_of
+bytes-back None None h = refl
+bytes-back None (Some up) h = refl
+bytes-back (Some r) None h = rw (from_le_bytes-to_le_bytes_4 r.word h)
+bytes-back (Some r) (Some up) h = rw (from_le_bytes-to_le_bytes_4 r.word h)
+
+pub bytes_back : (x : Expected) → BytesBack x
+bytes_back x = record { back = bytes-back x.response x.lines }

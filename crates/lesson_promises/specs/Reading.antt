@@ -1,12 +1,13 @@
 -- What is promised of the reader of lesson text: a line of each kind and of each rule of docs/LESSONS.md, with what it means. The places of
 -- broken rules count from 0.
-use Rattle.std.specs.Prelude.{true, ◌≡◌, ℕ, Option, Some, None, Result, Ok}
+use Rattle.std.specs.Prelude.{true, ◌≡◌, ℕ, Option, Some, None, Result, Ok, ◌^◌, ◌<◌}
 use Rattle.model.specs.declared.Answer.{Answer}
 use Rattle.model.specs.declared.WideStep.TheVariants.{Reset, Read, Write, Idle, BitTimes, Activity, Start, Outcome, Receive, ReceiveError}
 use Rattle.names.specs.Table.{bytes}
 use Rattle.lines.specs.Meanings.{meaning_numbers, bad}
 use Rattle.lines.specs.Expectations.{response, expected}
 use Rattle.lines.specs.Lines.{meaning_of}
+use Rattle.expected.specs.Bytes.{bytes_of, expected_of}
 use Rattle.expected.specs.Holds.{holds}
 use Rattle.expected.specs.declared.Response.{Response}
 use Rattle.expected.specs.declared.Expected.{Expected}
@@ -114,3 +115,11 @@ pub record Holds (x : Expected) (a : Answer) : Type 0 where
   pub lines_alone : (up : ℕ) → x.response ≡ None → x.lines ≡ Some up → up ≡ a.lines → holds x a ≡ true
   pub both : (r : Response) (up : ℕ) → x.response ≡ Some r → x.lines ≡ Some up → r.code ≡ a.code → r.word ≡ a.word → up ≡ a.lines → holds x a ≡ true
   pub nothing : x.response ≡ None → x.lines ≡ None → holds x a ≡ true
+
+-- what is expected is read back from its bytes; a word has 32 bits
+abbrev pub WordFits : Option Response → Type 0
+WordFits None = Unit {0}
+WordFits (Some r) = r.word < 2 ^ 32
+
+pub record BytesBack (x : Expected) : Type 0 where
+  pub back : WordFits x.response → expected_of (bytes_of x) ≡ x

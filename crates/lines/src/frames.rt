@@ -6,7 +6,8 @@ use super::{Fault, Meaning, Rule, alone};
 use model::{WideFrame, WideStep};
 use names::scan::{Class, byte_at, run_end, value, word_at};
 
-// Pairs of digits up to a place as a number, the first one lowest; there are eight at the most.
+// Pairs of digits up to a place as a number, the first one lowest; there are eight at the most. The index goes back from the end, as
+// the definition counts the pairs.
 #[tactic(auto, unfolding(crate::specs::Frames::pairs))]
 fn pairs(s: &[u8], to: usize, count: usize) -> u64
     requires { 2 * count ≤ to }

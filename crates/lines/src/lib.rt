@@ -127,7 +127,8 @@ fn number_line(s: &[u8], step: u32, place: usize) -> Result<Meaning, Fault>
 
 // ---- a line
 
-// By the number of the line's first word, which stands from one place up to another.
+// By the number of the line's first word, which stands from one place up to another. The number is the table's: an enum would list its
+// fourteen words once more, with a match from numbers to variants in front of this one.
 #[tactic(auto, unfolding(crate::specs::Lines::line_of))]
 fn line_of(s: &[u8], step: u32, from: usize, to: usize) -> Result<Meaning, Fault>
     ensures { result ≡ lines.line_of s.now step from to }

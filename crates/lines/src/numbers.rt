@@ -6,7 +6,8 @@ use super::{Fault, Rule};
 use names::Group;
 use names::scan::{Word, byte_at, value, word_at};
 
-// What a word stands for: one that begins with a decimal digit for a number, if that has 32 bits, or a name for a number.
+// What a word stands for: one that begins with a decimal digit for a number, if that has 32 bits, or a name for a number. A word that is
+// neither is a case of its own, matched beside these two.
 #[derive(Clone, Copy, Debug, PartialEq, Eq)]
 pub(crate) enum Sense {
     Numeral(Option<u32>),
@@ -116,8 +117,7 @@ pub(crate) fn by_name(s: &[u8], place: usize, g: Group) -> Term
         return t;
     }
     Term {
-        from: t.from,
-        to: t.to,
         sense: named_sense(s, word_at(s, place), g),
+        ..t
     }
 }

@@ -128,7 +128,7 @@ fn field(s: &[u8], k: Kind, p: Part, w: Word) -> Result<Part, Fault>
 
 // ---- all words
 
-// A line has no more words than bytes.
+// Each word begins where the one before it says, so no iterator gives them; a line has no more words than bytes.
 pub(crate) fn all_words(s: &[u8], k: Kind, place: usize) -> Result<Part, Fault>
     ensures { result ≡ parts.all_words s.now k place }
 {
@@ -189,6 +189,7 @@ pub(crate) fn write_line(s: &[u8], place: usize) -> Result<Meaning, Fault>
     }
 }
 
+// Words as in `all_words`.
 pub(crate) fn bytes_line(s: &[u8], place: usize) -> Result<Meaning, Fault>
     ensures { result ≡ lines.bytes_line s.now place }
 {

@@ -1,13 +1,14 @@
 -- A literal of rows one behind the other, cut at row i, is row i of the list.
-use mathlib.Core.Bool.{Bool, true, false, ◌&&◌}
-use mathlib.Core.Path.{◌≡◌, refl, sym, ap, ◌∙◌}
+use Rattle.std.proofs.Math.Dec.{leb-suc-suc}
+use mathlib.Core.Bool.{Bool, true, ◌&&◌}
+use mathlib.Core.Path.{◌≡◌, ap, ◌∙◌}
 use mathlib.Core.List.{List, [], ◌∷◌, ◌++◌}
 use Prim.Native.Nat.{ℕ, zero, suc, ◌+◌, ◌*◌, ◌/◌, ◌<◌}
 use native.Mathlib.Omega.{arith}
-use lib.Dec.{eqb, leb}
+use lib.Dec.{eqb}
 use lib.ListN.{length, take, drop, length-append}
 use lib.Seq.{take_at, drop-append-add}
-use borrow.Author.Tests.{eqb-true, leb-true, leb-false, le-leb, lt-leb}
+use borrow.Author.Tests.{eqb-true, le-leb, lt-leb}
 use Rattle.base.specs.Base.{pick}
 use Rattle.base.proofs.Choices.{Is, and_l, and_r}
 use Rattle.names.specs.Listing.{no_row, cut, row_of}
@@ -29,20 +30,13 @@ first r x e =
     let h : 0 < length (r ++ x) / 14 = simp length-append (omega arith) in
     ap (λ (b : Bool). pick b no_row (take 14 (r ++ x))) (lt-leb _ _ h) ∙ take_at r x 14 e
 
-leb_suc : (a i : ℕ) → leb (suc a) (suc i) ≡ leb a i
-leb_suc a i = go (leb a i) refl
-  where
-    go : (b : Bool) → leb a i ≡ b → leb (suc a) (suc i) ≡ leb a i
-    go true e = let h = leb-true a i e in le-leb (suc a) (suc i) (omega arith) ∙ sym e
-    go false e = let h = leb-false a i e in lt-leb (suc a) (suc i) (omega arith) ∙ sym e
-
 further : (r x : List ℕ) (i : ℕ) → length r ≡ 14 → cut (r ++ x) (suc i) ≡ cut x i
 unfolding cut
 further r x i e =
     let n : length (r ++ x) / 14 ≡ suc (length x / 14) = simp length-append (omega arith) in
     let p : suc i * 14 ≡ length r + i * 14 = omega arith in
     let d : drop (suc i * 14) (r ++ x) ≡ drop (i * 14) x = rw p (drop-append-add r x (i * 14)) in
-    rw (n, d) (ap (λ (b : Bool). pick b no_row (take 14 (drop (i * 14) x))) (leb_suc (length x / 14) i))
+    rw (n, d) (ap (λ (b : Bool). pick b no_row (take 14 (drop (i * 14) x))) (leb-suc-suc (length x / 14) i))
 
 pub cut_rows : (l : List (List ℕ)) → Is (is_full l) → (i : ℕ) → cut (spelled l) i ≡ row_of l i
 unfolding spelled is_full row_of cut

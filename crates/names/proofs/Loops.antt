@@ -1,11 +1,11 @@
 -- The definitions that count what is left, one place on and at their end: what a loop needs to carry them.
 use mathlib.Core.Bool.{Bool, true, false, not, ◌||◌}
 use mathlib.Core.Path.{◌≡◌, refl, sym, ap, ◌∙◌}
-use mathlib.Core.List.{List, [], ◌∷◌}
+use mathlib.Core.List.{List}
 use Prim.Native.Nat.{ℕ, zero, suc, ◌+◌, ◌-◌, ◌<◌, ◌≤◌}
 use native.Mathlib.Omega.{arith}
 use lib.Dec.{eqb, leb}
-use lib.ListN.{length, get_or}
+use lib.ListN.{length}
 use borrow.Author.Tests.{leb-true, leb-false, le-leb, lt-leb, eq-eqb, ne_eqb}
 use Rattle.base.specs.Base.{pick}
 use Rattle.std.specs.Prelude.{Option, Some, None, max}
@@ -51,12 +51,6 @@ run-over s from i k h l e = go (leb from (length s)) refl
         let f : length s < from = leb-false from (length s) t in
         let m : max from (length s) ≡ from = omega arith in
         m ∙ sym (run-ended s from (length s) k (omega arith))
-
--- what is read past the end does not matter inside
-pub inside : (l : List ℕ) (i a b : ℕ) → i < length l → get_or l i a ≡ get_or l i b
-inside [] i a b h = absurd (omega arith)
-inside (x ∷ l) zero a b h = refl
-inside (x ∷ l) (suc i) a b h = inside l i a b (omega arith)
 
 -- once there is no number, there stays none
 value_stuck : (s : List ℕ) (hex : Bool) (n i : ℕ) → value_on s i hex n None ≡ None

@@ -34,7 +34,7 @@ pub fn numbers_of(row: usize) -> Numbers
 {
     let t = text(row);
     Numbers {
-        place: u32::from(t[8]) * 256 + u32::from(t[9]),
+        place: u32::from(u16::from_be_bytes([t[8], t[9]])),
         size: u32::from(t[10]),
         count: u32::from(t[11]),
         digits: u32::from(t[12]),
@@ -72,7 +72,8 @@ impl Found {
 
 // ---- by name
 
-// Whether a word is a name, with digits where the name has a percent sign.
+// Whether a word is a name, with digits where the name has a percent sign. A place of the word goes along with the letter of the name, and
+// jumps behind the digits: no chain over the name says so more plainly.
 fn is_named(s: &[u8], w: Word, name: &[u8]) -> bool
     ensures { result ≡ rows.is_named s.now w name.now }
 {
@@ -102,6 +103,7 @@ pub(crate) fn find(s: &[u8], w: Word, first: u32, count: u32) -> Option<usize>
     ensures { result ≡ rows.find_on s.now w first count }
 {
     let first = first as usize;
+    // Tried as `find` of the range: the proof that its answer is the definition's did not close.
     for row in first..first + count as usize {
         if is_named(s, w, &text(row)) {
             return Some(row);

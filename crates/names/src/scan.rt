@@ -27,7 +27,7 @@ pub fn byte_at(s: &[u8], i: usize) -> u8
     s.get(i).copied().unwrap_or(b' ')
 }
 
-// The value of a hex digit.
+// The value of a hex digit. std's `to_digit` gives it as a number of 32 bits of a `char`, which is no plainer than the three ranges.
 #[tactic(auto, unfolding(crate::specs::Scan::digit_of))]
 pub fn digit_of(c: u8) -> Option<u8>
     ensures { result ≡ scan.digit_of c }
@@ -57,7 +57,7 @@ impl Class {
     }
 }
 
-// The end of the bytes of a class that begin at a place.
+// The end of the bytes of a class that begin at a place. The end is a place of the whole text, which `position` would count from the first.
 pub fn run_end(s: &[u8], from: usize, k: Class) -> usize
     ensures { result ≡ scan.run_end s.now from k }
 {
@@ -84,7 +84,8 @@ fn with_digit(n: u32, c: u8, hex: bool) -> Option<u32>
     n.checked_mul(base)?.checked_add(digit)
 }
 
-// The number whose digits stand from one place up to another, where it is a number of 32 bits.
+// The number whose digits stand from one place up to another, where it is a number of 32 bits; `from_str_radix` would want a `&str`, and
+// takes a sign.
 pub fn value(s: &[u8], from: usize, to: usize, hex: bool) -> Option<u32>
     ensures { result ≡ scan.value s.now from to hex }
 {

@@ -3,7 +3,8 @@
 ghost use Rattle.std.specs.Prelude.{◌≡◌};
 ghost use Rattle.names.specs.Listing as listing;
 
-// Row i of rows that stand one behind the other; where there is none zeros.
+// Row i of rows that stand one behind the other; where there is none zeros. The rows stay bytes: the prover compares them with the
+// definition byte by byte, and `text` promises them so.
 #[tactic(auto, unfolding(crate::specs::Listing::cut))]
 fn cut(s: &[u8], i: usize) -> [u8; 14]
     ensures { result ≡ listing.cut s.now i }
