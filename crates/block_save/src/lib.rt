@@ -38,6 +38,7 @@ fn put_core(b: &mut Block, c: Core)
 // ---- saving. A block of another length than 354 is refused, and stays as it was
 
 // The reset state.
+#[tactic(auto, unfolding(block::specs::Loading::right_length, block::specs::Loading::save_code, block::specs::Loading::saved_over))]
 pub fn save_reset(b: &mut [u8]) -> Result<(), Refusal>
     ensures code { code_of result ≡ loading.save_code b.old }
     ensures block { b.new ≡ loading.saved_over b.old map.reset }
@@ -50,6 +51,7 @@ pub fn save_reset(b: &mut [u8]) -> Result<(), Refusal>
 }
 
 // All but the field of the banks, which no event changes.
+#[tactic(auto, unfolding(block::specs::Loading::right_length, block::specs::Loading::save_code, block::specs::Loading::core_saved_over))]
 pub fn save_core(b: &mut [u8], c: Core) -> Result<(), Refusal>
     ensures code { code_of result ≡ loading.save_code b.old }
     ensures block { b.new ≡ loading.core_saved_over b.old c }
@@ -62,6 +64,7 @@ pub fn save_core(b: &mut [u8], c: Core) -> Result<(), Refusal>
 }
 
 // The field of the banks.
+#[tactic(auto, unfolding(block::specs::Loading::right_length, block::specs::Loading::save_code, block::specs::Loading::banks_saved_over))]
 pub fn save_banks(b: &mut [u8], v: [u32; 28]) -> Result<(), Refusal>
     ensures code { code_of result ≡ loading.save_code b.old }
     ensures block { b.new ≡ loading.banks_saved_over b.old v }

@@ -10,6 +10,7 @@ use model::{
     Control, Errors, FifoState, Filters, Mailbox, MailboxState, Queue, RequestOrder, StoredFrame,
 };
 
+#[tactic(auto, unfolding(block::specs::Block::control_bytes, block::specs::Block::word_bytes))]
 pub(crate) fn put_control(b: &mut Block, k: Control)
     ensures { b.new ≡ sets b.old 0 (blocks.control_bytes k) }
 {
@@ -20,6 +21,7 @@ pub(crate) fn put_control(b: &mut Block, k: Control)
     put_flags(b, 19, [k.reinitialized, k.erri, k.wkui, k.slaki]);
 }
 
+#[tactic(auto, unfolding(block::specs::Block::errors_bytes))]
 pub(crate) fn put_errors(b: &mut Block, e: Errors)
     ensures { b.new ≡ sets b.old 23 (blocks.errors_bytes e) }
 {
@@ -63,6 +65,7 @@ fn order_bytes(o: RequestOrder) -> [u8; 3]
     }
 }
 
+#[tactic(auto, unfolding(block::specs::Block::queue_bytes))]
 pub(crate) fn put_queue(b: &mut Block, q: Queue)
     ensures { b.new ≡ sets b.old 99 (blocks.queue_bytes q) }
 {
@@ -74,6 +77,7 @@ pub(crate) fn put_queue(b: &mut Block, q: Queue)
 
 // ---- reception
 
+#[tactic(auto, unfolding(block::specs::Block::word_bytes))]
 fn put_frame(b: &mut Block, i: usize, x: StoredFrame)
     requires { i + 16 ≤ blocks.block_length }
     ensures { b.new ≡ sets b.old i (blocks.frame_bytes x) }
@@ -95,6 +99,7 @@ pub(crate) fn put_fifo(b: &mut Block, i: usize, tag: u8, q: FifoState)
 
 // ---- filters
 
+#[tactic(auto, unfolding(block::specs::Block::filters_bytes, block::specs::Block::word_bytes))]
 pub(crate) fn put_filters(b: &mut Block, g: Filters)
     ensures { b.new ≡ sets b.old 219 (blocks.filters_bytes g) }
 {

@@ -7,6 +7,7 @@ ghost use Rattle.block_save.specs.Reset as bytes;
 use crate::numbers::{put, put_words};
 use block::Block;
 
+#[tactic(auto, unfolding(crate::specs::Reset::headers))]
 fn put_headers(b: &mut Block)
     ensures { b.new ≡ bytes.headers b.old }
 {
@@ -22,6 +23,7 @@ fn put_headers(b: &mut Block)
     put(b, 239, [0x49, 112, 0]);
 }
 
+#[tactic(auto, unfolding(crate::specs::Reset::reset_numbers))]
 fn put_numbers(b: &mut Block)
     ensures { b.new ≡ bytes.reset_numbers b.old }
 {
