@@ -49,27 +49,28 @@ fn flags_ok(b: &Block, i: usize) -> bool
 fn order_ok(x: u8, y: u8, z: u8) -> bool
     ensures { result ≡ blocks.order_ok x y z }
 {
-    (x <= 3) & (y <= 3) & (z <= 3) & ((x != 3) | (y == 3)) & ((y != 3) | (z == 3))
+    x <= 3 && y <= 3 && z <= 3 && (x != 3 || y == 3) && (y != 3 || z == 3)
 }
 
+#[tactic(auto, unfolding(block::specs::Block::form_ok))]
 fn form_ok(b: &Block) -> bool
     ensures { result ≡ blocks.form_ok b.now }
 {
-    (b[17] <= 2)
-        & flags_ok(b, 19)
-        & flags_ok(b, 49)
-        & flags_ok(b, 72)
-        & flags_ok(b, 95)
-        & order_ok(b[102], b[103], b[104])
-        & (b[105] <= 3)
-        & flag_ok(b, 106)
-        & flag_ok(b, 107)
-        & flag_ok(b, 108)
-        & flag_ok(b, 162)
-        & flag_ok(b, 163)
-        & flag_ok(b, 217)
-        & flag_ok(b, 218)
-        & flag_ok(b, 238)
+    b[17] <= 2
+        && flags_ok(b, 19)
+        && flags_ok(b, 49)
+        && flags_ok(b, 72)
+        && flags_ok(b, 95)
+        && order_ok(b[102], b[103], b[104])
+        && b[105] <= 3
+        && flag_ok(b, 106)
+        && flag_ok(b, 107)
+        && flag_ok(b, 108)
+        && flag_ok(b, 162)
+        && flag_ok(b, 163)
+        && flag_ok(b, 217)
+        && flag_ok(b, 218)
+        && flag_ok(b, 238)
 }
 
 // The form of a block: tags, lengths, mode, flags, request order.

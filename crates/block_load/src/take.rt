@@ -3,8 +3,8 @@ ghost use Rattle.std.specs.Prelude.{◌≡◌, ◌+◌, ◌≤◌, drop};
 ghost use Rattle.model.specs.Queue as queues;
 ghost use Rattle.block.specs.Block as blocks;
 
-use block::Block;
 use crate::numbers::{flag_at, number16, number32};
+use block::Block;
 use model::{
     ByMailbox, Control, Errors, FifoState, Filters, Mailbox, MailboxState, Mode, Queue,
     RequestOrder, StoredFrame,

@@ -1,5 +1,4 @@
-// Whether a controller lies within the listed ranges. The tests of one part are joined by `&`: nearly always all of them hold, and a
-// branch for each would cost every call from C. Where a test is long, as of a frame, it leaves by itself.
+// Whether a controller lies within the listed ranges.
 #![tactic(auto)]
 
 ghost use Rattle.std.specs.Prelude.{◌≡◌, ◌≤◌};
@@ -7,6 +6,7 @@ ghost use Rattle.model.specs.Reachable as reachable;
 ghost use Rattle.model.specs.Queue as queues;
 ghost use Rattle.ranges.specs.Ranges as ranges;
 
+use bits::bit;
 use model::{
     Control, Core, Errors, FifoState, Filters, Frame, Mailbox, MailboxState, Mode, Queue,
     RequestOrder, StoredFrame, Transmit,
@@ -20,7 +20,7 @@ fn distinct(o: RequestOrder) -> bool
     match o {
         RequestOrder::Empty | RequestOrder::One(_) => true,
         RequestOrder::Two(a, b) => a != b,
-        RequestOrder::Three(a, b, c) => (a != b) & (a != c) & (b != c),
+        RequestOrder::Three(a, b, c) => a != b && a != c && b != c,
     }
 }
 
@@ -44,10 +44,10 @@ fn queue_ok(q: Queue) -> bool
     ensures { result ≡ ranges.queue_ok q }
 {
     distinct(q.order)
-        & carried(q.transmitting, q.order)
-        & (!q.aborts.m0 | is_from(q.transmitting, Mailbox::M0))
-        & (!q.aborts.m1 | is_from(q.transmitting, Mailbox::M1))
-        & (!q.aborts.m2 | is_from(q.transmitting, Mailbox::M2))
+        && carried(q.transmitting, q.order)
+        && (!q.aborts.m0 || is_from(q.transmitting, Mailbox::M0))
+        && (!q.aborts.m1 || is_from(q.transmitting, Mailbox::M1))
+        && (!q.aborts.m2 || is_from(q.transmitting, Mailbox::M2))
 }
 
 // ---- mailboxes
@@ -55,7 +55,7 @@ fn queue_ok(q: Queue) -> bool
 fn at_most_one(a: bool, b: bool, c: bool) -> bool
     ensures { result ≡ ranges.at_most_one a b c }
 {
-    !(a & b) & !(a & c) & !(b & c)
+    !(a && b) && !(a && c) && !(b && c)
 }
 
 // pending: the mailbox has a request.
@@ -63,11 +63,11 @@ fn at_most_one(a: bool, b: bool, c: bool) -> bool
 fn mailbox_ok(x: MailboxState, pending: bool) -> bool
     ensures { result ≡ ranges.mailbox_ok x pending }
 {
-    (x.ti / 2 * 2 == x.ti)
-        & (mailboxes::tdt_masked(x.tdt) == x.tdt)
-        & (!x.txok | x.rqcp)
-        & at_most_one(x.txok, x.alst, x.terr)
-        & (!pending | !x.rqcp)
+    x.ti / 2 * 2 == x.ti
+        && mailboxes::tdt_masked(x.tdt) == x.tdt
+        && (!x.txok || x.rqcp)
+        && at_most_one(x.txok, x.alst, x.terr)
+        && (!pending || !x.rqcp)
 }
 
 #[tactic(auto, unfolding(crate::specs::Ranges::transmit_ok))]
@@ -75,9 +75,9 @@ fn transmit_ok(t: Transmit) -> bool
     ensures { result ≡ ranges.transmit_ok t }
 {
     queue_ok(t.queue)
-        & mailbox_ok(t.mailboxes.m0, queue::holds(t.queue.order, Mailbox::M0))
-        & mailbox_ok(t.mailboxes.m1, queue::holds(t.queue.order, Mailbox::M1))
-        & mailbox_ok(t.mailboxes.m2, queue::holds(t.queue.order, Mailbox::M2))
+        && mailbox_ok(t.mailboxes.m0, queue::holds(t.queue.order, Mailbox::M0))
+        && mailbox_ok(t.mailboxes.m1, queue::holds(t.queue.order, Mailbox::M1))
+        && mailbox_ok(t.mailboxes.m2, queue::holds(t.queue.order, Mailbox::M2))
 }
 
 // ---- frames
@@ -102,19 +102,18 @@ fn none_behind(w: u64, n: u8) -> bool
     n == 8 || w >> (8 * n) == 0
 }
 
-// Each test leaves by itself, here and in a FIFO, so that nothing is kept for the end: 34 instructions less where the FIFOs are full.
 #[tactic(auto, unfolding(crate::specs::Ranges::frame_ok))]
 fn frame_ok(x: StoredFrame) -> bool
     ensures { result ≡ ranges.frame_ok x }
 {
-    x.ri % 2 == 0
+    !bit(0, x.ri)
         && (x.rdt >> 4) % 16 == 0
         && (x.rdt >> 8) % 256 <= 55
         && none_behind(
             u64::from(x.rdl) + u64::from(x.rdh) * 0x100000000,
             receive::data_bytes(frame_of(x)),
         )
-        && (((x.ri >> 2) % 2 == 1) | ((x.ri >> 3) % 262144 == 0))
+        && (bit(2, x.ri) || (x.ri >> 3) % 262144 == 0)
 }
 
 #[tactic(auto, unfolding(crate::specs::Ranges::is_no_frame))]
@@ -163,9 +162,9 @@ fn filters_ok(g: Filters) -> bool
     ensures { result ≡ ranges.filters_ok g }
 {
     bank_bits_ok(g.mode)
-        & bank_bits_ok(g.scale)
-        & bank_bits_ok(g.assignment)
-        & bank_bits_ok(g.activation)
+        && bank_bits_ok(g.scale)
+        && bank_bits_ok(g.assignment)
+        && bank_bits_ok(g.activation)
 }
 
 // ---- control and errors
@@ -175,19 +174,19 @@ fn filters_ok(g: Filters) -> bool
 fn control_ok(k: Control) -> bool
     ensures { result ≡ ranges.control_ok k }
 {
-    (control::mcr_written(k, k.mcr).mcr == k.mcr)
-        & (control::ier_written(k, k.ier).ier == k.ier)
-        & (control::btr_written(k, k.btr).btr == k.btr)
-        & (control::ttcm(k) | (k.timer == 0))
-        & (k.recovery < 128)
-        & (!k.slaki | matches!(k.mode, Mode::Sleep))
+    control::mcr_written(k, k.mcr).mcr == k.mcr
+        && control::ier_written(k, k.ier).ier == k.ier
+        && control::btr_written(k, k.btr).btr == k.btr
+        && (control::ttcm(k) || k.timer == 0)
+        && k.recovery < 128
+        && (!k.slaki || matches!(k.mode, Mode::Sleep))
 }
 
 #[tactic(auto, unfolding(crate::specs::Ranges::errors_ok))]
 fn errors_ok(e: Errors) -> bool
     ensures { result ≡ ranges.errors_ok e }
 {
-    (e.tec <= 263) & (e.lec <= 7)
+    e.tec <= 263 && e.lec <= 7
 }
 
 #[tactic(auto, unfolding(crate::specs::Ranges::recovery_ok))]
@@ -195,10 +194,10 @@ fn recovery_ok(k: Control, off: bool) -> bool
     ensures { result ≡ ranges.recovery_ok k off }
 {
     let initializing = matches!(k.mode, Mode::Initialization);
-    (off | (k.recovery == 0))
-        & (off | !k.reinitialized)
-        & (!initializing | (k.recovery == 0))
-        & (!initializing | !off | k.reinitialized)
+    (off || k.recovery == 0)
+        && (off || !k.reinitialized)
+        && (!initializing || k.recovery == 0)
+        && (!initializing || !off || k.reinitialized)
 }
 
 // free: no own frame is on the wire.
@@ -206,9 +205,9 @@ fn recovery_ok(k: Control, off: bool) -> bool
 fn wire_ok(k: Control, free: bool, off: bool) -> bool
     ensures { result ≡ ranges.wire_ok k free off }
 {
-    (free | matches!(k.mode, Mode::Normal))
-        & (free | !off)
-        & (free | !(control::silm(k) & !control::lbkm(k)))
+    (free || matches!(k.mode, Mode::Normal))
+        && (free || !off)
+        && (free || !(control::silm(k) && !control::lbkm(k)))
 }
 
 #[tactic(auto, unfolding(crate::specs::Ranges::followed_ok))]
@@ -216,7 +215,7 @@ fn followed_ok(k: Control, free: bool) -> bool
     ensures { result ≡ ranges.followed_ok k free }
 {
     let next = control::mode_next(k.mode, control::inrq(k), control::sleep(k));
-    !free | (control::mode_bits(next) == control::mode_bits(k.mode))
+    !free || control::mode_bits(next) == control::mode_bits(k.mode)
 }
 
 // ---- the controller
@@ -227,18 +226,19 @@ fn is_free(q: Queue) -> bool
     q.transmitting.is_none()
 }
 
+#[tactic(auto, unfolding(crate::specs::Ranges::in_range))]
 pub fn in_range(c: Core) -> bool
     ensures { result ≡ ranges.in_range c }
 {
     let off = control::boff(c.errors);
     let free = is_free(c.transmit.queue);
     control_ok(c.control)
-        & errors_ok(c.errors)
-        & recovery_ok(c.control, off)
-        & wire_ok(c.control, free, off)
-        & followed_ok(c.control, free)
-        & transmit_ok(c.transmit)
-        & fifo_ok(c.fifo0)
-        & fifo_ok(c.fifo1)
-        & filters_ok(c.filters)
+        && errors_ok(c.errors)
+        && recovery_ok(c.control, off)
+        && wire_ok(c.control, free, off)
+        && followed_ok(c.control, free)
+        && transmit_ok(c.transmit)
+        && fifo_ok(c.fifo0)
+        && fifo_ok(c.fifo1)
+        && filters_ok(c.filters)
 }
