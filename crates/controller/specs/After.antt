@@ -1,6 +1,6 @@
 -- What a step does, by its kind first: the code, the word, the core before the mode rule, and what becomes of the words of the banks.
 -- Document 01: "Refusal numbers" (refuse first, then apply), "Modes".
-use Rattle.std.specs.Prelude.{Bool, true, false, ◌&&◌, List, ◌≡◌, refl, ℕ, zero, suc, ◌≤◌, ◌<◌, eqb, Result, Ok, Err}
+use Rattle.std.specs.Prelude.{Bool, true, false, ◌&&◌, List, ◌≡◌, refl, ℕ, zero, suc, ◌≤◌, ◌<◌, eqb, Ok, Err}
 use Rattle.std.specs.Result.{result_unwrap_or}
 use Rattle.std.proofs.Common.{arith, ne_eqb, le-leb, ap, ◌∙◌}
 use Rattle.base.specs.Base.{pick}

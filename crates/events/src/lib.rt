@@ -8,7 +8,7 @@ ghost use Rattle.model.specs.Search as search;
 ghost use Rattle.model.specs.Step as stepping;
 ghost use Rattle.model.specs.declared.Step.TheVariants as steps;
 
-use model::{Core, Fifo, Filters, FilterNumber, Frame, Mailbox, MailboxState, StoredFrame};
+use model::{Core, Fifo, FilterNumber, Filters, Frame, Mailbox, MailboxState, StoredFrame};
 
 // ---- idle, bit times, activity, receive errors
 

@@ -80,6 +80,7 @@ pub fn start_word(c: Core) -> u32
 
 // ---- the interrupt lines
 
+// Not `||`: no branch, in every step.
 #[tactic(auto, unfolding(model::specs::Step::any_rqcp))]
 fn any_rqcp(t: Transmit) -> bool
     ensures { result ≡ stepping.any_rqcp t }
@@ -107,7 +108,11 @@ pub fn lines_of(c: Core) -> u8
     ensures { result ≡ stepping.lines_of c }
 {
     let Core {
-        control, transmit, fifo0, fifo1, ..
+        control,
+        transmit,
+        fifo0,
+        fifo1,
+        ..
     } = c;
     let ier = control.ier;
     if ier == 0 {

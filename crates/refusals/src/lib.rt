@@ -67,10 +67,7 @@ pub fn write_refusal(g: Register, c: Core) -> Result<(), Refusal>
     match g {
         Register::Btr if c.control.mode != Mode::Initialization => Err(Refusal::NotWritable),
         Register::Ti(m) | Register::Tdt(m) | Register::Tdl(m) | Register::Tdh(m)
-            if has_request(c, m) =>
-        {
-            Err(Refusal::NotWritable)
-        }
+            if has_request(c, m) => { Err(Refusal::NotWritable) }
         Register::Ri(_) | Register::Rdt(_) | Register::Rdl(_) | Register::Rdh(_) => {
             Err(Refusal::ReadOnly)
         }
@@ -78,8 +75,7 @@ pub fn write_refusal(g: Register, c: Core) -> Result<(), Refusal>
             Err(Refusal::NotWritable)
         }
         Register::R1(b) | Register::R2(b)
-            if !c.filters.finit && bits::bit(b.0, c.filters.activation) =>
-        {
+            if !c.filters.finit && bits::bit(b.0, c.filters.activation) => {
             Err(Refusal::NotWritable)
         }
         Register::Absent => Err(Refusal::NotMapped),

@@ -2,12 +2,10 @@
 use Rattle.std.proofs.Common.{Some, None, Ok, Err}
 use mathlib.Core.Bool.{Bool, true, false, ◌||◌}
 use mathlib.Core.Path.{◌≡◌, refl}
-use mathlib.Core.List.{List, [], ◌∷◌}
 use Prim.Native.Nat.{ℕ, ◌≤◌}
 use native.Mathlib.Omega.{arith}
 use borrow.Author.Tests.{ltb-false}
 use lib.Dec.{eqb, ltb}
-use lib.ListN.{length, set, drop}
 use Rattle.base.specs.Base.{pick}
 use Rattle.script.specs.OneWay.{answerable, code_of, is_end}
 use Rattle.model.specs.Script.{Reading}

@@ -77,7 +77,11 @@ pub fn refuse_opening(reply: &mut [u8], lines: u8) -> u8
         return u8::from(Refusal::NoSpace);
     }
     let code = u8::from(Refusal::NotOpened);
-    let answer = Answer { code, lines, word: 0 };
+    let answer = Answer {
+        code,
+        lines,
+        word: 0,
+    };
     write_reply(reply, answer);
     code
 }

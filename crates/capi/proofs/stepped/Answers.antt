@@ -37,10 +37,10 @@ returns-then-s-ne0-clause-block c =
     let q = c.load_banks-banks.ensures in
     let t = c.core_step-s.ensures in
     elim c.then-s-ne0.branch [
-      then-s-ne0-via-then-s-ne0 w ↦ refused_leaves c.args.board c.args.b.now c.args.e h _ p _ q _ t w.if-s-ne0.true
+      | then-s-ne0-via-then-s-ne0 w ↦ refused_leaves c.args.board c.args.b.now c.args.e h _ p _ q _ t w.if-s-ne0.true
       | then-s-ne0-via-else-s-ne0+then-matches w ↦
-        let r : Is (is_read c.args.e) = elim w.match-matches.branch [ in-Read x ↦ rw x.in-Read.is refl | in_default x ↦ cc ] in
-        read_leaves c.args.board c.args.b.now c.args.e h _ p _ q _ t r
+          let r : Is (is_read c.args.e) = elim w.match-matches.branch [ in-Read x ↦ rw x.in-Read.is refl | in_default x ↦ cc ] in
+          read_leaves c.args.board c.args.b.now c.args.e h _ p _ q _ t r
     ]
 
 pub returns-in_err-save_core-clause-answer : goal.returns-in_err-save_core-clause-answer
@@ -92,8 +92,8 @@ returns-clause-block c =
     let z = c.if-s-ne0.false in
     let n : Not (is_read c.args.e) = elim c.match-matches.branch [ in-Read w ↦ cc | in_default w ↦ not_read c.args.e w.in_default.not-Read ] in
     elim c.if-not-is_nothing.branch [
-      then-not-is_nothing+in_ok-save_banks w ↦
-        w.b-is ∙ all_written_lem c.args.board c.args.b.now c.args.e h _ p _ q _ t z n _ _ (sym c.is_nothing.ensures ∙ w.if-not-is_nothing.true) w.banks_after.ensures (search rules) (rw (sym c.save_core.ensures.block) w.save_banks.ensures.block)
+      | then-not-is_nothing+in_ok-save_banks w ↦
+          w.b-is ∙ all_written_lem c.args.board c.args.b.now c.args.e h _ p _ q _ t z n _ _ (sym c.is_nothing.ensures ∙ w.if-not-is_nothing.true) w.banks_after.ensures (search rules) (rw (sym c.save_core.ensures.block) w.save_banks.ensures.block)
       | else-not-is_nothing w ↦
-        w.b-is ∙ core-written c.args.board c.args.b.now c.args.e h _ p _ q _ t z n _ (sym c.is_nothing.ensures ∙ w.if-not-is_nothing.false) c.save_core.ensures.block
+          w.b-is ∙ core-written c.args.board c.args.b.now c.args.e h _ p _ q _ t z n _ (sym c.is_nothing.ensures ∙ w.if-not-is_nothing.false) c.save_core.ensures.block
     ]
