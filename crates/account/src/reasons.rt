@@ -109,6 +109,8 @@ impl Bus {
         }
     }
 
+    // The next two are what `against_any` leaves of a start and of a reception; one function of both would have their flag and their
+    // two reasons as parameters.
     #[tactic(auto, unfolding(crate::specs::Reasons::of_start))]
     fn against_start(self) -> Reason
         ensures { result ≡ reasons.of_start self }

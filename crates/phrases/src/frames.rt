@@ -11,6 +11,7 @@ use text::Line;
 
 // ---- bytes
 
+// `blank` only says whether a byte more stands in front.
 #[tactic(auto, using(text::proofs::Putting::behind), unfolding(crate::specs::Frames::pair_text, text::specs::Lines::put_all))]
 fn pair(l: Line, b: u8, blank: bool) -> Line
     ensures { result ≡ lines.put_all l (framing.pair_text blank b) }

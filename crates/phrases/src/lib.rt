@@ -67,7 +67,7 @@ fn amount(l: Line, size: u32, digits: u32, n: u32) -> Line
     }
 }
 
-// The lowest bits of a number.
+// The lowest bits of a number; by std's checked_shl it would be no shorter, for 32 bits and more are all of it.
 fn lowest(n: u32, size: u32) -> u32
     ensures { result ≡ n % 2 ^ size }
 {
@@ -135,6 +135,7 @@ fn with_row(s: Said, row: usize, w: u32) -> Said
     said
 }
 
+// Offset and word stay two parameters here and below: they are what Step::Write has, and callers of `fields` hold no pair of them.
 fn all_fields(l: Line, offset: u32, w: u32) -> Said
     ensures { result ≡ naming.said_of l (naming.fields_at offset) w }
 {
@@ -213,7 +214,7 @@ fn error(l: Line, code: u8, by: u8) -> Line
     a.byte(b' ').decimal(u64::from(by))
 }
 
-// A step, without line end. `full`: with the number of a written word in front of its fields.
+// A step, without line end. `full`: with the number of a written word in front of its fields, which is all that it chooses.
 #[tactic(auto, using(text::proofs::Putting::behind), unfolding(crate::specs::Steps::step_text))]
 pub fn step(l: Line, e: Step, full: bool) -> Line
     ensures { result ≡ lines.put_all l (steps.step_text e full) }
