@@ -13,3 +13,7 @@ from_bool_one false = refl
 pub one_small : (b : Bool) → one b < 2
 one_small true = omega arith
 one_small false = omega arith
+
+pub from_bool_small : (b : Bool) → from_bool b < 2
+from_bool_small true = omega arith
+from_bool_small false = omega arith

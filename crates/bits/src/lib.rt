@@ -1,7 +1,7 @@
-// Bits of words, flags as numbers, and choices between numbers.
+// Bits of words, and choices between values.
 #![tactic(auto)]
 
-ghost use Rattle.std.specs.Prelude.{◌≡◌, ◌<◌, ◌≤◌, min};
+ghost use Rattle.std.specs.Prelude.{◌≡◌, ◌≤◌, min};
 ghost use Rattle.base.specs.Base as base;
 
 // Bit i of w; a word has no bits from 32 on.
@@ -12,12 +12,6 @@ pub fn bit(i: u32, w: u32) -> bool
         return false;
     }
     (w >> i) % 2 == 1
-}
-
-pub fn one(b: bool) -> u32
-    ensures { (result ≡ base.one b) × (result < 2) }
-{
-    if b { 1 } else { 0 }
 }
 
 // The first where b holds, else the second: a call, so that a proof has the choice as one value.

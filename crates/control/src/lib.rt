@@ -70,24 +70,6 @@ pub fn silm(k: Control) -> bool
     bit(31, k.btr)
 }
 
-pub fn is_sleep(m: Mode) -> bool
-    ensures { result ≡ control.is_sleep m }
-{
-    m == Mode::Sleep
-}
-
-pub fn is_initialization(m: Mode) -> bool
-    ensures { result ≡ control.is_initialization m }
-{
-    m == Mode::Initialization
-}
-
-pub fn is_normal(m: Mode) -> bool
-    ensures { result ≡ control.is_normal m }
-{
-    m == Mode::Normal
-}
-
 // INAK and SLAK.
 pub fn mode_bits(m: Mode) -> u8
     ensures { result ≡ control.mode_bits m }

@@ -56,7 +56,7 @@ pub fn read_at(o: u16, c: Core, banks: [u32; 28]) -> Result<u32, Refusal>
         0x1C4 => receive::output(c.fifo1).rdt,
         0x1C8 => receive::output(c.fifo1).rdl,
         0x1CC => receive::output(c.fifo1).rdh,
-        0x200 => 0x2A1C0E00 + bits::one(c.filters.finit),
+        0x200 => 0x2A1C0E00 + u32::from(c.filters.finit),
         0x204 => c.filters.mode,
         0x20C => c.filters.scale,
         0x214 => c.filters.assignment,
@@ -92,7 +92,7 @@ fn any_rqcp(t: Transmit) -> bool
 fn flags(a: bool, b: bool, c: bool) -> u32
     ensures { result ≡ base.one a + base.one b * 2 + base.one c * 4 }
 {
-    bits::one(a) + bits::one(b) * 2 + bits::one(c) * 4
+    u32::from(a) + u32::from(b) * 2 + u32::from(c) * 4
 }
 
 // A FIFO's flags, as their enable bits stand in IER.
@@ -119,9 +119,9 @@ pub fn lines_of(c: Core) -> u8
         return 0;
     }
     let status = flags(control.erri, control.wkui, control.slaki);
-    let sum = (ier & bits::one(any_rqcp(transmit)))
-        + bits::one((ier >> 1) & fifo_flags(fifo0) != 0) * 2
-        + bits::one((ier >> 4) & fifo_flags(fifo1) != 0) * 4
-        + bits::one((ier >> 15) & status != 0) * 8;
+    let sum = (ier & u32::from(any_rqcp(transmit)))
+        + u32::from((ier >> 1) & fifo_flags(fifo0) != 0) * 2
+        + u32::from((ier >> 4) & fifo_flags(fifo1) != 0) * 4
+        + u32::from((ier >> 15) & status != 0) * 8;
     sum as u8
 }
