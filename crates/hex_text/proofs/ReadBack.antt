@@ -1,6 +1,7 @@
 -- What is promised of hex text holds.
 use Rattle.std.proofs.Common.{◌≡◌, ℕ, suc, ◌+◌, ◌-◌, ◌*◌, ◌/◌, ◌%◌, ◌<◌, ◌≤◌, Bool, true, false, ◌||◌, eqb, leb, List, [], ◌∷◌, ◌++◌, length, sym, refl, ap, ◌∙◌, true≢false, append_assoc, append-nil, arith, le-ltb, lt-ltb, eq-eqb, ne_eqb, eqb-true, leb-true}
 use mathlib.Core.Bool.{false≢true}
+use Rattle.std.proofs.Math.Bool.{or-true}
 use Rattle.base.specs.Base.{pick}
 use Rattle.model.specs.Records.{Bytes}
 use Rattle.model.specs.Script.{byte_at}
@@ -99,10 +100,6 @@ in_range_lem a b c h = (leb-true a c (and_l (leb a c) (leb c b) h), leb-true c b
 abbrev DigitOnly : ℕ → Kind → Type 0
 DigitOnly c k = (v : ℕ) → kind_numbers k ≡ 0 ∷ v ∷ [] → (v < 16) × ((eqb c (upper_digit v) || eqb c (lower_digit v)) ≡ true)
 
-or_right : (a b : Bool) → b ≡ true → (a || b) ≡ true
-or_right true b h = refl
-or_right false b h = h
-
 module _ (c v : ℕ) where
   abbrev Shown : Type 0
   Shown = (v < 16) × ((eqb c (upper_digit v) || eqb c (lower_digit v)) ≡ true)
@@ -114,7 +111,7 @@ module _ (c v : ℕ) where
   upper_letter e (l, m) = (omega arith, rw (le-ltb v 10 (omega arith), eq-eqb c (65 + (v - 10)) (omega arith)))
 
   lower_letter : c - 87 ≡ v → (97 ≤ c) × (c ≤ 102) → Shown
-  lower_letter e (l, m) = (omega arith, rw (le-ltb v 10 (omega arith)) (or_right (eqb c (65 + (v - 10))) (eqb c (97 + (v - 10))) (eq-eqb c (97 + (v - 10)) (omega arith))))
+  lower_letter e (l, m) = (omega arith, rw (le-ltb v 10 (omega arith)) (rw (eq-eqb c (97 + (v - 10)) (omega arith)) (or-true (eqb c (65 + (v - 10))))))
 
 digit_value : (n v : ℕ) → kind_numbers (Digit n) ≡ 0 ∷ v ∷ [] → n ≡ v
 digit_value n v h = ap (λ (x : List ℕ). byte_at x 1) h
