@@ -1,4 +1,5 @@
-// Each register access and bus event as a call of its own: a controller goes in, a controller comes back.
+// Each register access and bus event as a call of its own: a controller goes in, a controller comes back. The calls differ in their step
+// alone, as the interface wants it; the one function for any step is controller::step.
 #![tactic(auto)]
 
 ghost use Rattle.std.specs.Prelude.{◌≡◌};

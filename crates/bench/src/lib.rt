@@ -32,7 +32,7 @@ pub fn step(c: &mut Controller, e: Step) -> Answer
     s.answer
 }
 
-// ---- each register access and bus event
+// ---- each register access and bus event: the interface names a call for each; for any step it is `step`
 
 pub fn hardware_reset(c: &mut Controller) -> Answer
     ensures { lent.Taken c.old steps.Reset result c.new }

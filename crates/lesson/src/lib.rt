@@ -71,7 +71,7 @@ pub fn record(z: Controller, lesson: &[u8], place: usize, reply: &mut [u8]) -> R
     refused(z, place, reply)
 }
 
-// Where record after record ends: as in a script, and at a refused opening.
+// Where record after record ends: as in a script, and at a refused opening; by the fields of a replay, as the definition.
 pub fn stops(ended: bool, code: u8) -> bool
     ensures { result ≡ lessons.lesson_stops ended code }
 {
@@ -140,7 +140,7 @@ pub fn replay_piece(
 ) -> LessonTurn
     ensures { turns.Taken k opened piece.now last replies.old result replies.new }
 {
-    // Not `||`, which has the piece replayed at two places of the code.
+    // Not `||`: each of its ways to the replay would be a proof of its own, and the piece be replayed at two places of the code.
     if (opened | opens(piece)) | (!last & (piece.len() < 3)) {
         return LessonTurn {
             turn: pieces::replay_piece(k, piece, last, replies),

@@ -140,7 +140,8 @@ pub fn core_replayed(z: Controller, script: &[u8], place: usize, reply: &mut [u8
 
 // ---- record after record
 
-// A replay stops at the end and where a record can't be read or answered.
+// A replay stops at the end and where a record can't be read or answered. By the end mark and the number of the code, as the fields of a
+// replay, of which the definition `stops` speaks.
 pub fn stops(ended: bool, code: u8) -> bool
     ensures { result ≡ scripts.stops ended code }
 {

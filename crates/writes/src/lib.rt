@@ -53,7 +53,8 @@ pub fn written(x: Register, c: Core, w: u32) -> Core
 
 // ---- the words of the banks
 
-// What a step does to the words of the banks: nothing, one word stored at its place, or all of them cleared.
+// What a step does to the words of the banks: nothing, one word stored at its place, or all of them cleared. Three things that it may
+// do, and none a value that is missing: in an Option each match would only be longer.
 #[derive(Clone, Copy)]
 pub enum BankWrite {
     Nothing,
