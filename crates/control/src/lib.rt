@@ -1,5 +1,5 @@
 // Modes, error counters, the timer, and the registers MCR, MSR, IER, BTR, ESR.
-// Each function is the definition of the same name in model's specs/Control.antt.
+// Each function is the definition of the same name in model's specs/Control.antt. Flags are joined by & and |, which take no branch.
 #![tactic(auto)]
 
 ghost use Rattle.std.specs.Prelude.{◌≡◌, ◌&&◌, ◌||◌, nat_le, nat_lt};
@@ -114,6 +114,7 @@ pub fn boff(e: Errors) -> bool
     is_off(e.tec)
 }
 
+// Field by field, as same_control.
 pub fn same_errors(e: Errors) -> Errors
     ensures { result ≡ e }
 {

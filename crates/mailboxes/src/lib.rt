@@ -1,4 +1,5 @@
 // The three transmit mailboxes: their words and flags, the register writes that change them, TI as it is read.
+// Flags are joined by & and |, which take no branch.
 #![tactic(auto)]
 
 ghost use Rattle.std.specs.Prelude.{◌≡◌, ◌<◌};
