@@ -59,7 +59,7 @@ fn mailbox(q: Queue, m: Mailbox) -> Aspect
     Aspect::Mailbox(m, occupancy_of(q, m))
 }
 
-// All that is looked at.
+// All that is looked at: a list, so that what changed is found in one way; the mailboxes stand in it one by one, as they do in the model.
 #[tactic(auto, unfolding(crate::specs::Views::view_of, model::specs::Registers::read_word))]
 pub fn view_of(c: Core) -> [Aspect; 12]
     ensures { result ≡ views.view_of c }
@@ -88,7 +88,8 @@ fn change(old: Aspect, new: Aspect) -> Option<Aspect>
     (old != new).then_some(new)
 }
 
-// What is seen after a step where it is another than before.
+// What is seen after a step where it is another than before. By index: of std's array::from_fn the check does not prove which item is
+// whose.
 pub fn changes(old: [Aspect; 12], new: [Aspect; 12]) -> [Option<Aspect>; 12]
     ensures { views.Changes old new result }
 {

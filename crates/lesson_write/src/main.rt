@@ -29,6 +29,7 @@ const LONGEST_REPEAT: usize = 60000;
 const ENOUGH: usize = 64000;
 
 // An item has a tag, the length of its body in two bytes, and the body; numbers have their low byte first.
+// The tags, which trace reads: an enum with a conversion to and from its byte would be no plainer.
 const SCRIPT: u8 = 1;
 
 const EXPECTATION: u8 = 2;
@@ -65,7 +66,8 @@ struct Session {
     stderr: Stderr,
 }
 
-// The pairs of digits from a place of a line on, up to its comment, as bytes.
+// The pairs of digits from a place of a line on, up to its comment, as bytes. By index: a pair is read at each place, also at a second
+// digit, where it does not count.
 fn unhexed(line: &[u8], from: usize) -> ArrayVec<u8, LONGEST_LINE> {
     let mut bytes = ArrayVec::new();
     let mut first = false;

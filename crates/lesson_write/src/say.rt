@@ -27,7 +27,7 @@ fn is_blank(c: u8) -> bool {
     matches!(c, b' ' | b'\t' | b'\r')
 }
 
-// What stands from a place up to the next blank. A byte that would move the place on a screen is shown as a question mark.
+// What stands from a place up to the next blank, read by place since past the end of a line a blank is read. A byte that would move the place on a screen is shown as a question mark.
 fn word(l: Line, s: &[u8], place: usize) -> Line {
     let n = run_end(s, place, Class::NoBlank).saturating_sub(place);
     let mut m = l.byte(b'\'');
@@ -61,7 +61,7 @@ fn found(l: Line, s: &[u8], place: usize, rule: Rule) -> Line {
 
 // ---- what is allowed
 
-// The names of a group, with commas between them; of a name with a number the first and the last.
+// The names of a group, whose rows are numbers, with commas between them; of a name with a number the first and the last.
 fn listed(l: Line, g: Group) -> Line {
     let rows = names::rows_of(g);
     let mut m = l;

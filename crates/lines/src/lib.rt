@@ -89,7 +89,7 @@ pub(crate) fn alone(s: &[u8], place: usize, m: Meaning) -> Result<Meaning, Fault
 
 // ---- lines with numbers
 
-// By the number of the line's first word.
+// By the number of the line's first word, as in `line_of`.
 #[tactic(auto, unfolding(crate::specs::Lines::number_line))]
 fn number_line(s: &[u8], step: u32, place: usize) -> Result<Meaning, Fault>
     ensures { result ≡ lines.number_line s.now step place }

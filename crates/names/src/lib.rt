@@ -97,7 +97,7 @@ pub fn named(s: &[u8], w: Word, g: Group) -> Option<Found>
     Some(Found { row, index })
 }
 
-// The row of the register at an offset: the first that has it, and its index there.
+// The row of the register at an offset: the first that has it, and its index there. A row is its number, so the loop is over numbers.
 #[tactic(auto, unfolding(crate::specs::Rows::index_at))]
 pub fn register_at(offset: u32) -> Option<Found>
     ensures { result ≡ tables.register_at offset }

@@ -2,6 +2,7 @@
 use model::Refusal;
 use std::io;
 
+// Patterns for the number of a piece's answer, which the definitions of pieces and lesson give as a number.
 const SHORT: u8 = Refusal::Short as u8;
 
 const UNKNOWN_TAG: u8 = Refusal::UnknownTag as u8;

@@ -28,6 +28,7 @@ const LONGEST_BODY: usize = 1000;
 
 const LONGEST_ITEM: usize = HEAD + LONGEST_BODY;
 
+// Two tags, read here and written by lesson_write: an enum with a conversion to and from its byte would be no plainer.
 const SCRIPT: u8 = 1;
 
 const EXPECTATION: u8 = 2;

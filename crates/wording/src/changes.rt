@@ -57,6 +57,7 @@ fn with_flags(l: Line, flags: u32) -> Line {
     line
 }
 
+// The words of each kind, here and of a mode: two kinds and no twins.
 fn occupancy(o: Occupancy) -> &'static [u8] {
     match o {
         Occupancy::Empty => b" empty",
