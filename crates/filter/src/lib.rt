@@ -3,6 +3,7 @@
 #![tactic(auto)]
 
 ghost use Rattle.std.specs.Prelude.{◌≡◌, ℕ, ◌+◌, ◌<◌, ◌≤◌, ◌==◌};
+ghost use Rattle.model.specs.declared.FilterClass.TheVariants.{List32, Mask32, List16, Mask16};
 ghost use Rattle.base.specs.Base as base;
 ghost use Rattle.model.specs.Banks as banks;
 ghost use Rattle.model.specs.Banks.{first_word, second_word, short_word};
@@ -177,7 +178,6 @@ const ALL: u32 = 0xffffffff;
 
 // The first match in the banks of the word `part`, but for those with more than `most` filters before them. The lowest bank that is
 // left comes next.
-#[inline(always)]
 fn first_match(
     banks: &[u32; 28],
     w: u32,
@@ -382,8 +382,37 @@ fn can_win(g: Filters, n: u32, part: u32) -> u32
     }
 }
 
-// A call for each class, so that the compiler makes a loop for each: a class that is looked up in the loop costs more than the
-// comparisons.
+// A function for each class, so that the compiler makes a loop for each: a class that is looked up in the loop costs more than the
+// comparisons. One function that is inlined where it is called takes 701 instructions a frame, where these take 535
+// (docs/PERFORMANCE.md).
+fn list32_match(banks: &[u32; 28], w: u32, short: u32, part: u32, most: u32) -> FirstMatch
+    requires { short ≡ short_word w }
+    ensures { places.FirstIn banks.now w List32 part most result }
+{
+    first_match(banks, w, short, FilterClass::List32, part, most)
+}
+
+fn mask32_match(banks: &[u32; 28], w: u32, short: u32, part: u32, most: u32) -> FirstMatch
+    requires { short ≡ short_word w }
+    ensures { places.FirstIn banks.now w Mask32 part most result }
+{
+    first_match(banks, w, short, FilterClass::Mask32, part, most)
+}
+
+fn list16_match(banks: &[u32; 28], w: u32, short: u32, part: u32, most: u32) -> FirstMatch
+    requires { short ≡ short_word w }
+    ensures { places.FirstIn banks.now w List16 part most result }
+{
+    first_match(banks, w, short, FilterClass::List16, part, most)
+}
+
+fn mask16_match(banks: &[u32; 28], w: u32, short: u32, part: u32, most: u32) -> FirstMatch
+    requires { short ≡ short_word w }
+    ensures { places.FirstIn banks.now w Mask16 part most result }
+{
+    first_match(banks, w, short, FilterClass::Mask16, part, most)
+}
+
 fn match_of_class(
     banks: &[u32; 28],
     w: u32,
@@ -396,10 +425,10 @@ fn match_of_class(
     ensures { places.FirstIn banks.now w k part most result }
 {
     match k {
-        FilterClass::List32 => first_match(banks, w, short, FilterClass::List32, part, most),
-        FilterClass::Mask32 => first_match(banks, w, short, FilterClass::Mask32, part, most),
-        FilterClass::List16 => first_match(banks, w, short, FilterClass::List16, part, most),
-        FilterClass::Mask16 => first_match(banks, w, short, FilterClass::Mask16, part, most),
+        FilterClass::List32 => list32_match(banks, w, short, part, most),
+        FilterClass::Mask32 => mask32_match(banks, w, short, part, most),
+        FilterClass::List16 => list16_match(banks, w, short, part, most),
+        FilterClass::Mask16 => mask16_match(banks, w, short, part, most),
     }
 }
 
