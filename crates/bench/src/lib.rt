@@ -1,5 +1,5 @@
-// The bench layer: one controller is lent and changed in place. Each function copies it whole, calls the by-value
-// function and stores the next controller whole, so that no proof here goes by the fields of its core.
+// The bench layer: one controller is lent and changed in place. Each function calls the by-value function and stores the next core
+// whole, so that no proof here goes by the fields of the core.
 #![tactic(auto)]
 
 ghost use Rattle.std.specs.Prelude.{◌≡◌, ◌+◌, ◌<◌, ◌^◌, length};
@@ -99,6 +99,7 @@ pub fn receive_error(c: &mut Controller, code: u8, by: u8) -> Answer
 // ---- one record of a script
 
 // One record by value, its reply from place `written` of the reply space on. A place past the space counts as its end.
+// A script and a place in it one by one, as `reading` of records promises of them.
 fn replayed_at(
     z: Controller,
     script: &[u8],
@@ -108,7 +109,7 @@ fn replayed_at(
 ) -> CoreReplayed
     ensures { (result ≡ lent.core_record_in z script.now place replies.old written) × (replies.new ≡ lent.placed written (scripts.reply_of (way.whole z result)) replies.old) }
 {
-    let from = bits::least(written, replies.len());
+    let from = written.min(replies.len());
     script::core_replayed(z, script, place, &mut replies[from..])
 }
 

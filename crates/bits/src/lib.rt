@@ -1,7 +1,7 @@
 // Bits of words, and choices between values.
 #![tactic(auto)]
 
-ghost use Rattle.std.specs.Prelude.{◌≡◌, ◌≤◌, min};
+ghost use Rattle.std.specs.Prelude.{◌≡◌};
 ghost use Rattle.base.specs.Base as base;
 
 // Bit i of w; a word has no bits from 32 on.
@@ -19,11 +19,4 @@ pub fn pick<T: Copy>(b: bool, x: T, y: T) -> T
     ensures { result ≡ base.pick b x y }
 {
     if b { x } else { y }
-}
-
-// The smaller of two numbers.
-pub fn least(a: usize, b: usize) -> usize
-    ensures { (result ≡ min a b) × (result ≤ b) }
-{
-    if a < b { a } else { b }
 }

@@ -4,6 +4,7 @@ ghost use Rattle.block.specs.Block as blocks;
 
 use block::Block;
 
+// The place is the caller's number, here and in the other files of the block: each field has a length of its own, so no type has the bound.
 #[tactic(auto, unfolding(block::specs::Block::header_ok))]
 fn header_ok(b: &Block, i: usize, tag: u8, n: u8) -> bool
     requires { i + 3 ≤ blocks.block_length }
@@ -12,6 +13,7 @@ fn header_ok(b: &Block, i: usize, tag: u8, n: u8) -> bool
     b[i] == tag && b[i + 1] == n && b[i + 2] == 0
 }
 
+// Line by line as the definition: a list of the ten headers would hold the same numbers, and each is written with its field (block_save).
 #[tactic(auto, unfolding(block::specs::Block::headers_ok))]
 fn headers_ok(b: &Block) -> bool
     ensures { result ≡ blocks.headers_ok b.now }
@@ -52,6 +54,7 @@ fn order_ok(x: u8, y: u8, z: u8) -> bool
     x <= 3 && y <= 3 && z <= 3 && (x != 3 || y == 3) && (y != 3 || z == 3)
 }
 
+// Byte by byte as the definition: the places follow no step.
 #[tactic(auto, unfolding(block::specs::Block::form_ok))]
 fn form_ok(b: &Block) -> bool
     ensures { result ≡ blocks.form_ok b.now }

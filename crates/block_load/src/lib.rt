@@ -12,6 +12,7 @@ mod form; // form.rt: whether what stands beside the numbers is as saving writes
 mod numbers; // numbers.rt: numbers and flags in a block
 mod take; // take.rt: each part of the state from its field
 
+// One by one: each has a place of its own in the block.
 #[tactic(auto, unfolding(block::specs::Block::transmit_at))]
 fn transmit_at(b: &Block) -> Transmit
     ensures { result ≡ blocks.transmit_at b.now }

@@ -10,6 +10,7 @@ use model::{
     RequestOrder, StoredFrame,
 };
 
+// A function and no TryFrom: form.rt has looked at the byte, and the definition gives a mode for every byte.
 #[tactic(auto, unfolding(block::specs::Block::mode_at))]
 fn mode_at(n: u8) -> Mode
     ensures { result ≡ blocks.mode_at n }
@@ -69,6 +70,7 @@ pub(crate) fn mailbox_at(b: &Block, i: usize) -> MailboxState
 
 // ---- requests
 
+// Of every byte, as the definition: form.rt has looked at it, here and below.
 fn numbered(n: u8) -> Mailbox
     ensures { result ≡ queues.numbered n }
 {
@@ -79,6 +81,7 @@ fn numbered(n: u8) -> Mailbox
     }
 }
 
+// 3 is the block's byte for none (docs/BLOCK.md).
 #[tactic(auto, unfolding(block::specs::Block::sender_at))]
 fn sender_at(n: u8) -> Option<Mailbox>
     ensures { result ≡ blocks.sender_at n }
@@ -101,6 +104,7 @@ fn order_at(a: u8, b: u8, c: u8) -> RequestOrder
     }
 }
 
+// The three flags one by one: see model::ByMailbox.
 #[tactic(auto, unfolding(block::specs::Block::queue_at))]
 pub(crate) fn queue_at(b: &Block) -> Queue
     ensures { result ≡ blocks.queue_at b.now }

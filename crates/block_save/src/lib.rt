@@ -15,6 +15,7 @@ mod numbers; // numbers.rt: bytes, words and flags to their places
 mod put; // put.rt: each part of the state to its field
 mod reset; // reset.rt: the block of the reset state
 
+// One by one: each has a place and a tag of its own.
 fn put_transmit(b: &mut Block, t: Transmit)
     ensures { b.new ≡ sets b.old 30 (blocks.transmit_bytes t) }
 {
@@ -38,6 +39,7 @@ fn put_core(b: &mut Block, c: Core)
 // ---- saving. A block of another length than 354 is refused, and stays as it was
 
 // The reset state.
+// The three differ in what is put: over a closure each would be as long. Each promises the code of its own (docs/READING.md names all).
 #[tactic(auto, unfolding(block::specs::Loading::right_length, block::specs::Loading::save_code, block::specs::Loading::saved_over))]
 pub fn save_reset(b: &mut [u8]) -> Result<(), Refusal>
     ensures code { code_of result ≡ loading.save_code b.old }

@@ -41,12 +41,14 @@ pub(crate) fn put_mailbox(b: &mut Block, i: usize, tag: u8, x: MailboxState)
 
 // ---- requests
 
+// A byte of the block; `number` of queue gives 32 bits for sums, and each is one cast.
 fn number(m: Mailbox) -> u8
     ensures { result ≡ queues.number m }
 {
     m as u8
 }
 
+// 3 for none: the block's byte (docs/BLOCK.md), and not 0 as in CODE.
 fn sender_byte(s: Option<Mailbox>) -> u8
     ensures { result ≡ blocks.sender_byte s }
 {
@@ -65,6 +67,7 @@ fn order_bytes(o: RequestOrder) -> [u8; 3]
     }
 }
 
+// The three flags as one array of the block: see model::ByMailbox.
 #[tactic(auto, unfolding(block::specs::Block::queue_bytes))]
 pub(crate) fn put_queue(b: &mut Block, q: Queue)
     ensures { b.new ≡ sets b.old 99 (blocks.queue_bytes q) }

@@ -69,6 +69,7 @@ fn last_line(n: Counts) -> Line {
 // ---- a turn of the loop
 
 // The text waits to go out; a lesson's opening is read, or none is asked for.
+// Input and handles lie in the session itself, as in encoder.
 #[derive(Drop)]
 struct Session {
     controller: Controller,

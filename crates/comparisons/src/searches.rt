@@ -30,6 +30,7 @@ fn accepted_word(c: Core, e: Step) -> Option<u32>
 }
 
 // The identifier word that the filters are searched for, if they are. c is the controller before the step, code the step's code.
+// By the number in the step's answer (model::Stepped), as the definition.
 #[tactic(auto, unfolding(crate::specs::Searches::searched_word))]
 pub fn searched_word(c: Core, e: Step, code: u8) -> Option<u32>
     ensures { result ≡ searches.searched_word c e code }

@@ -1,5 +1,6 @@
 // Modes, error counters, the timer, and the registers MCR, MSR, IER, BTR, ESR.
 // Each function is the definition of the same name in model's specs/Control.antt. Flags are joined by & and |, which take no branch.
+// A value is chosen by `pick`, with no branch, and the proof has the choice as one value (bits).
 #![tactic(auto)]
 
 ghost use Rattle.std.specs.Prelude.{◌≡◌, ◌&&◌, ◌||◌, nat_le, nat_lt};
@@ -71,6 +72,7 @@ pub fn silm(k: Control) -> bool
 }
 
 // INAK and SLAK.
+// A function and no From: INAK and SLAK are bits of MSR and of the block, and docs/READING.md names it.
 pub fn mode_bits(m: Mode) -> u8
     ensures { result ≡ control.mode_bits m }
 {
@@ -156,6 +158,7 @@ pub fn same_control(k: Control) -> Control
     }
 }
 
+// `off` beside the control: it is read off the counters, which are no part of it.
 #[tactic(auto, unfolding(model::specs::Control::entered))]
 pub fn entered(k: Control, m: Mode, off: bool) -> Control
     ensures { result ≡ control.entered k m off }
@@ -344,6 +347,7 @@ pub fn idled(k: Control, e: Errors) -> Control
     entered(counted(k, e), idle_mode(k.mode, k.mcr), is_off(e.tec))
 }
 
+// The three fields one by one, as in `same_errors`: the struct of four bytes would be packed.
 #[tactic(auto, unfolding(model::specs::Control::recovers, model::specs::Control::idle_counts, model::specs::Control::idle_errors))]
 pub fn idle_errors(k: Control, e: Errors) -> Errors
     ensures { result ≡ control.idle_errors k e }
@@ -385,6 +389,7 @@ pub fn woken(k: Control) -> Control
     }
 }
 
+// By the number of the step, which may be any byte (model::Step). Field by field, as `same_errors`.
 #[tactic(auto, unfolding(model::specs::Control::outcome_errors))]
 pub fn outcome_errors(e: Errors, r: u8) -> Errors
     ensures { result ≡ control.outcome_errors e r }
@@ -409,6 +414,7 @@ pub fn outcome_errors(e: Errors, r: u8) -> Errors
     }
 }
 
+// Field by field, as `same_errors`.
 #[tactic(auto, unfolding(model::specs::Control::received_errors))]
 pub fn received_errors(e: Errors) -> Errors
     ensures { result ≡ control.received_errors e }
@@ -427,6 +433,7 @@ pub fn rec_plus(x: u8, n: u8) -> u8
     x.saturating_add(n)
 }
 
+// Field by field, as `same_errors`.
 #[tactic(auto, unfolding(model::specs::Control::receive_error_counters))]
 pub fn receive_error_counters(e: Errors, k: u8, n: u8) -> Errors
     ensures { result ≡ control.receive_error_counters e k n }

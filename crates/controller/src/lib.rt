@@ -14,6 +14,7 @@ use writes::BankWrite;
 
 // ---- hardware reset
 
+// One by one, see model::ByMailbox.
 #[tactic(auto, unfolding(model::specs::Registers::reset))]
 fn core_reset() -> Core
     ensures { result ≡ (map.reset).core }
@@ -60,6 +61,7 @@ pub fn reset() -> Controller
 // ---- what a step does, before the mode rule
 
 // What a step does: the core, the word or the refusal, and what becomes of the words of the banks.
+// It has no lines yet, so it is no CoreStepped: one struct over the kind of answer would name the kind at each use.
 #[derive(Clone, Copy)]
 pub struct Effect {
     pub core: Core,
@@ -171,6 +173,7 @@ fn settled_if(ok: bool, c: Core) -> Control
 }
 
 // What a step gives, the words of the banks by what it does to them.
+// As Effect, with the lines: two types, see there.
 #[derive(Clone, Copy)]
 pub struct CoreStepped {
     pub core: Core,

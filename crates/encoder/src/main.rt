@@ -117,6 +117,7 @@ impl Place {
 }
 
 // How far the answers are written, how far the requests are answered, and the answers that wait in between.
+// Input, waiting bytes and the three handles lie in the session itself: each use lends one or two of them, and a struct would stand between.
 #[derive(Drop)]
 struct Session {
     input: Input<65536>,

@@ -5,6 +5,7 @@ ghost use Rattle.model.specs.declared.Step.TheVariants as steps;
 
 use model::{Controller, Frame, Stepped};
 
+// A method for each call, since the program runs the calls themselves: by `step` alone ten of each kind would go unseen.
 pub(crate) trait Calls {
     fn hardware_reset(z: Controller) -> Stepped
         ensures { result ≡ stepping.step z steps.Reset };

@@ -52,6 +52,7 @@ fn takes_under(x: u32, m: u32, w: u32) -> bool
 }
 
 // Whether filter j of a bank of class k with the words a and b takes a frame; `short` is the frame's 16-bit word.
+// Numbers one by one, here and in the search: a struct of the two words is packed, one of all stays in memory (docs/PERFORMANCE.md).
 fn takes(k: FilterClass, a: u32, b: u32, j: u32, w: u32, short: u32) -> bool
     requires { short ≡ short_word w }
     ensures { result ≡ banks.matches k a b j w }
@@ -111,6 +112,7 @@ fn first_number_of(g: Filters, f: Fifo, b: Bank) -> FilterNumber
 }
 
 // The number that the first filter of a bank has in a FIFO.
+// `pick` here and in `lower`: no branch, and the proof has the choice as one value (bits).
 pub fn first_number(g: Filters, f: Fifo, b: Bank) -> FilterNumber
     ensures { result ≡ banks.first_number 14 g f b }
 {
@@ -128,6 +130,7 @@ struct Comparison {
 }
 
 // The search compares through this function alone, so that no comparison goes uncounted.
+// `short` goes along with w: a struct of both is packed, and worked out for each filter it would cost the search (docs/PERFORMANCE.md).
 fn compare(k: FilterClass, a: u32, b: u32, j: u32, w: u32, short: u32, compared: u32) -> Comparison
     requires { (short ≡ short_word w) × (compared < 56) }
     ensures { (result.takes ≡ banks.matches k a b j w) × (result.compared ≡ compared + 1) }
@@ -153,6 +156,7 @@ fn of_class(g: Filters, k: FilterClass) -> u32
 }
 
 // A place in the search: four times the bank's number and the filter's place in the bank; 128 stands for none.
+// A number and no Option: an enum of eight bytes is packed into one integer wherever it is handed on (docs/PERFORMANCE.md, "What decides").
 #[derive(Clone, Copy)]
 struct Place(u32);
 
@@ -163,6 +167,7 @@ struct FirstMatch {
     compared: u32,
 }
 
+// 128 is no place (Place), as the definition `no_match` has it.
 #[tactic(auto, unfolding(crate::specs::Places::no_match))]
 fn no_match(compared: u32) -> FirstMatch
     ensures { result ≡ places.no_match compared }
@@ -173,11 +178,12 @@ fn no_match(compared: u32) -> FirstMatch
     }
 }
 
-// Where nothing is left out.
-const ALL: u32 = 0xffffffff;
+// Where nothing is left out: a limit and no Option, for one comparison before each bank.
+const ALL: u32 = u32::MAX;
 
 // The first match in the banks of the word `part`, but for those with more than `most` filters before them. The lowest bank that is
 // left comes next.
+// By hand: the ones of a word have no iterator, and `most` is asked before each bank. j is the filter's place in its bank.
 fn first_match(
     banks: &[u32; 28],
     w: u32,
@@ -228,6 +234,7 @@ struct Leading {
     compared: u32,
 }
 
+// Numbers as in Place and parameters as in `takes`: what is handed on as a struct is packed or stays in memory.
 fn leading_of(g: Filters, banks: &[u32; 28], w: u32, short: u32, k: FilterClass) -> Leading
     requires { short ≡ short_word w }
     ensures { places.Leads g banks.now w k result }
@@ -261,6 +268,7 @@ fn leading_of(g: Filters, banks: &[u32; 28], w: u32, short: u32, k: FilterClass)
     }
 }
 
+// By number, as Place.
 #[tactic(auto, unfolding(crate::specs::Places::any_place))]
 fn any_place(p: Leading) -> bool
     ensures { result ≡ places.any_place p }
@@ -334,6 +342,7 @@ fn best_class(g: Filters, banks: &[u32; 28], w: u32, short: u32) -> BestClass
 // ---- FIFO 1 after FIFO 0's match
 
 // The number of the filter at a place, 255 for none.
+// 255 loses against every number, so that `lower` needs no case for none.
 #[tactic(auto, unfolding(crate::specs::Places::number_at))]
 fn number_at(g: Filters, f: Fifo, p: Place) -> u32
     requires { places.Within p }
@@ -359,6 +368,7 @@ fn width_at(g: Filters, b: Bank) -> u32
 // Of the banks of FIFO 1 in the word `part`, those whose first filter number is below n: the others can't win against number n of
 // FIFO 0. No bank has more than four filters, so bank i with 4 * i < n needs no look. Where all banks of FIFO 1 are searched they are
 // given back whole: the first number of each is then how many filters come before it, and the search stops by its own count.
+// By hand, as in `first_match`: the ones of a word have no iterator.
 fn can_win(g: Filters, n: u32, part: u32) -> u32
     requires { n ≤ 56 }
     ensures { places.CanWin g n part result }
@@ -436,6 +446,7 @@ fn match_of_class(
 
 // Twice the filter's number, and one more in FIFO 1, so that the lower filter number wins, and FIFO 0 where they are equal;
 // 510 where no filter matches.
+// A number and no Option: docs/READING.md names `winner` as one, and the lower number wins by one comparison; `acceptance` gives the Option.
 #[derive(Clone, Copy)]
 pub struct WinningFilter(pub u32);
 
@@ -487,6 +498,7 @@ fn after_fifo0(g: Filters, banks: &[u32; 28], w: u32, short: u32, b: BestClass) 
 }
 
 // The whole search.
+// 510 where no bank is active: by the number, as `winner`.
 pub fn search(
     mode: u32,
     scale: u32,
@@ -538,6 +550,7 @@ pub fn winner(
     search(mode, scale, assignment, activation, banks, w).winner
 }
 
+// A function and no From: its definition stands in specs/Places.antt, and the number is the winner's (WinningFilter).
 #[tactic(auto, unfolding(crate::specs::Places::accepted_by))]
 pub fn accepted_by(x: WinningFilter) -> Option<(Fifo, FilterNumber)>
     ensures { result ≡ places.accepted_by x }

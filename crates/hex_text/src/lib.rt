@@ -47,6 +47,7 @@ pub struct Advance {
 }
 
 // What a piece of text does: the reader behind it, and how many bytes it gave.
+// A count and no slice: the bytes lie at the front of the text that was lent.
 #[derive(Clone, Copy)]
 pub struct Piece {
     pub reader: Reader,

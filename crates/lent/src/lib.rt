@@ -24,6 +24,7 @@ fn on_lent<F: FnOnce(&mut Controller) -> Answer>(mut z: Controller, call: F) -> 
     }
 }
 
+// A call for each, as in access and bench (README.md and docs/READING.md name them so); what they share is `on_lent`.
 pub fn hardware_reset(z: Controller) -> Stepped
     ensures { result ≡ stepping.step z steps.Reset }
 {

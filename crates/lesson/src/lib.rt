@@ -20,6 +20,7 @@ pub fn opens(lesson: &[u8]) -> bool
 }
 
 // Another opening: 11 with its reply, or 9 where there is no space for that. The controller and the place stay.
+// State, place and reply space one by one, as `record` and `core_replayed` promise of them.
 fn refused(z: Controller, place: usize, reply: &mut [u8]) -> Replayed
     ensures value { result ≡ lessons.refused_opening z place (length reply.old) }
     ensures reply_after { reply.new ≡ scripts.overwritten (scripts.reply_of result) reply.old }
@@ -115,6 +116,7 @@ pub struct LessonTurn {
     pub opened: bool,
 }
 
+// The code as pieces::Turn has it.
 fn refused_turn(k: Position, code: u8) -> Turn
     ensures { result ≡ turns.refused_turn k code }
 {

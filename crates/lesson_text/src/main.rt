@@ -13,6 +13,7 @@ use text::Line;
 const LONGEST_RECORD: usize = 16;
 
 // Past this the text goes out, so that there is always room for a line.
+// The space less a line, as in replies: each program has a space and a limit of its own.
 const ENOUGH_TEXT: usize = 65024;
 
 // The text that waits to go out; whether the bytes are told as they are.

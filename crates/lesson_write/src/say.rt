@@ -28,6 +28,7 @@ fn is_blank(c: u8) -> bool {
 }
 
 // What stands from a place up to the next blank, read by place since past the end of a line a blank is read. A byte that would move the place on a screen is shown as a question mark.
+// Text, line and place one by one, here and below: what is said is put behind the text, and the other two are what is looked at.
 fn word(l: Line, s: &[u8], place: usize) -> Line {
     let n = run_end(s, place, Class::NoBlank).saturating_sub(place);
     let mut m = l.byte(b'\'');
@@ -42,6 +43,7 @@ fn word(l: Line, s: &[u8], place: usize) -> Line {
 }
 
 // A comment is the end of its line; it begins behind a blank or at the line's start, before which a blank is read.
+// Line, place and rule, as `lines::Fault` with the line; the rules of lines that don't go together have no such fault.
 fn found(l: Line, s: &[u8], place: usize, rule: Rule) -> Line {
     match rule {
         Rule::TooLong => return l.put(b"more bytes"),

@@ -8,6 +8,7 @@ use names::scan::{Class, byte_at, run_end, value, word_at};
 
 // Pairs of digits up to a place as a number, the first one lowest; there are eight at the most. The index goes back from the end, as
 // the definition counts the pairs.
+// The line and a place in it, as everywhere here: a slice up to the place would lose the column.
 #[tactic(auto, unfolding(crate::specs::Frames::pairs))]
 fn pairs(s: &[u8], to: usize, count: usize) -> u64
     requires { 2 * count ≤ to }
@@ -58,6 +59,7 @@ fn finished(s: &[u8], to: usize, place: usize, f: WideFrame) -> Result<Meaning, 
 }
 
 // Behind 'R' the word ends, or a length code from 0 to 8 follows.
+// The word's end and the identifier go along to where the frame is put together; these three alone have both.
 #[tactic(auto, unfolding(crate::specs::Frames::remote))]
 fn remote(s: &[u8], to: usize, at: usize, identifier: u32) -> Result<Meaning, Fault>
     ensures { result ≡ frames.remote s.now to at identifier }

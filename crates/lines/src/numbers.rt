@@ -16,6 +16,7 @@ pub(crate) enum Sense {
 }
 
 // A word of a line: where it stands, and what it stands for.
+// Places and no slice: a fault is told by its column.
 #[derive(Clone, Copy)]
 pub(crate) struct Term {
     pub(crate) from: usize,
@@ -65,6 +66,7 @@ impl Term {
 }
 
 // Hex digits behind 0x, or decimal ones.
+// The line and a word of it go together: a Word is places, for a fault is told by its column, and holds no bytes.
 #[tactic(auto, unfolding(crate::specs::Numbers::sense_of))]
 fn sense_of(s: &[u8], w: Word) -> Sense
     ensures { result ≡ numbers.sense_of s.now w }

@@ -30,6 +30,7 @@ pub(crate) struct Part {
 }
 
 // The number of a field, as it stands in a line: where the field's name is, where the number is, the place behind it, and the number.
+// Places and no slices, as in Term.
 #[derive(Clone, Copy)]
 pub(crate) struct Amount {
     name: usize,

@@ -53,6 +53,7 @@ pub fn tdt_masked(w: u32) -> u32
     (w >> 16) % 65536 * 65536 + (w >> 8) % 2 * 256 + w % 16
 }
 
+// This and the next two write another field each, and a field is no parameter; writes calls them by register.
 #[tactic(auto, unfolding(model::specs::Mailboxes::tdt_written))]
 pub fn tdt_written(x: MailboxState, w: u32) -> MailboxState
     ensures { result ≡ mailboxes.tdt_written x w }
@@ -136,6 +137,7 @@ fn aborts_pending(q: Queue, m: Mailbox, b: bool) -> bool
     b & holds(q.order, m) & (q.transmitting != Some(m))
 }
 
+// One by one: each bit has a place of its own.
 fn abrq(w: u32) -> ByMailbox<bool>
     ensures { result ≡ mailboxes.abrq w }
 {
@@ -154,6 +156,7 @@ fn flags_written(x: MailboxState, k: u32, w: u32, b: bool) -> MailboxState
     completed(cleared(x, k, w), b)
 }
 
+// One by one: each has its byte of the word (see model::ByMailbox).
 #[tactic(auto, unfolding(model::specs::Mailboxes::tsr_written))]
 pub fn tsr_written(t: Transmit, w: u32) -> Transmit
     ensures { result ≡ mailboxes.tsr_written t w }

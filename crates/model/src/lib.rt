@@ -16,6 +16,7 @@ pub enum Mailbox {
 }
 
 // The mailboxes that are not empty, the oldest request first.
+// No heap: a list of at most three, case by case, as specs/Queue.antt and Reachable.antt speak of it (docs/DECISIONS.md, C1).
 #[derive(Clone, Copy)]
 pub enum RequestOrder {
     Empty,
@@ -25,6 +26,7 @@ pub enum RequestOrder {
 }
 
 // One thing for each mailbox: a bit, the identifier word that arbitration looks at, all that a mailbox holds.
+// What is made of each of the three is written one by one: over a closure it would be a line, and need its promise and edits besides.
 #[derive(Clone, Copy)]
 pub struct ByMailbox<T> {
     pub m0: T,
@@ -78,6 +80,7 @@ pub struct StoredFrame {
 }
 
 // A FIFO: `count` frames, the oldest first; places past the count hold zeros.
+// No heap: three frames and a count. `FifoRange` (specs/Reachable.antt) names first, second and third.
 #[derive(Clone, Copy)]
 pub struct FifoState {
     pub first: StoredFrame,
@@ -171,6 +174,7 @@ pub struct Core {
 }
 
 // `banks` holds R1 and R2 of each of the 14 banks in turn.
+// One array, as the definitions of specs/Banks.antt take it (`first_word`, `second_word`).
 #[derive(Clone, Copy)]
 pub struct Controller {
     pub core: Core,
@@ -206,6 +210,7 @@ impl From<Refusal> for u8 {
 // ---- steps and answers
 
 // A register, as an offset names it.
+// `Absent` is a case and no None: the promises of specs/Codes.antt take any register and ask `IsPresent` of it.
 #[derive(Clone, Copy)]
 pub enum Register {
     Mcr,
@@ -234,6 +239,7 @@ pub enum Register {
 }
 
 // A hardware reset, a register access or a bus event. `Outcome` is what document 01 calls an own end.
+// Numbers, as C and a record give them: a step takes any, and refuses by 5 what is out of range (docs/DECISIONS.md, C8).
 #[derive(Clone, Copy)]
 pub enum Step {
     Reset,
@@ -249,6 +255,7 @@ pub enum Step {
 }
 
 // What a step gives: the next controller, the code (0 is done), the interrupt lines, the word.
+// Field by field, the code as a number: the promises of specs/Codes.antt and Interrupts.antt name code, lines and word of a step.
 #[derive(Clone, Copy)]
 pub struct Stepped {
     pub controller: Controller,
@@ -258,6 +265,7 @@ pub struct Stepped {
 }
 
 // What is said of a step.
+// The code is a number, for a reply that is read back may say any (specs/Replies.antt).
 #[derive(Clone, Copy)]
 pub struct Answer {
     pub code: u8,
@@ -274,6 +282,7 @@ pub type Reading = Result<Option<(Step, usize)>, Refusal>;
 pub type ReplyReading = Result<(Answer, usize), Refusal>;
 
 // A frame and a step in numbers of 32 bits, which may be too large for a record: what is written to a script.
+// Types of their own: one over the widths would name its three number types at each use, and specs/Writer.antt speaks of these.
 #[derive(Clone, Copy)]
 pub struct WideFrame {
     pub identifier: u32,
@@ -297,6 +306,7 @@ pub enum WideStep {
 }
 
 // What one record gives: the next controller, whether the script was at its end, the answer, the next place.
+// `ended` and `code` as the promises of specs/Scripts.antt (`RecordCodes`) name them, of a refused record too.
 #[derive(Clone, Copy)]
 pub struct Replayed {
     pub controller: Controller,
@@ -309,6 +319,7 @@ pub struct Replayed {
 
 // What a whole script gives: the last controller, the place where the replay stopped, how many records gave a step,
 // how many bytes of replies were written, and the last answer.
+// As in Replayed: a promise of specs/Lesson.antt (`stopped`) names `ended` and `code` of a replay.
 #[derive(Clone, Copy)]
 pub struct Replay {
     pub controller: Controller,

@@ -25,6 +25,7 @@ pub enum Group {
 }
 
 // Rows that follow one another: the first, and how many there are.
+// Not a Range: the definition `rows_of` gives first and count, and two bytes of a register's row hold them.
 #[derive(Clone, Copy)]
 pub struct Span {
     pub first: u32,

@@ -12,6 +12,7 @@ pub enum Class {
 }
 
 // A word from one place up to another, with its first decimal digits from `digits` up to `rest`.
+// Places and no slices: the definitions of specs/Scan.antt speak of them, and a fault is told by its column.
 #[derive(Clone, Copy)]
 pub struct Word {
     pub from: usize,
@@ -58,6 +59,7 @@ impl Class {
 }
 
 // The end of the bytes of a class that begin at a place. The end is a place of the whole text, which `position` would count from the first.
+// A class and no closure: the definition `run_end` speaks of classes, and this is promised to be it.
 pub fn run_end(s: &[u8], from: usize, k: Class) -> usize
     ensures { result ≡ scan.run_end s.now from k }
 {
@@ -72,6 +74,7 @@ pub fn run_end(s: &[u8], from: usize, k: Class) -> usize
 // ---- numbers
 
 // A number with one digit more.
+// `hex` is the base, 16 or 10 and no other, as the definitions `with_digit` and `value` take it.
 #[tactic(auto, unfolding(crate::specs::Scan::with_digit))]
 fn with_digit(n: u32, c: u8, hex: bool) -> Option<u32>
     ensures { result ≡ scan.with_digit (Some n) c hex }
@@ -86,6 +89,7 @@ fn with_digit(n: u32, c: u8, hex: bool) -> Option<u32>
 
 // The number whose digits stand from one place up to another, where it is a number of 32 bits; `from_str_radix` would want a `&str`, and
 // takes a sign.
+// By place, for past the end a blank is read, which is no digit.
 pub fn value(s: &[u8], from: usize, to: usize, hex: bool) -> Option<u32>
     ensures { result ≡ scan.value s.now from to hex }
 {

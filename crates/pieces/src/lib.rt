@@ -42,6 +42,7 @@ impl Position {
 
 // What a piece gives: the position behind it, the place in it from which on it is left for the next piece, how many bytes of
 // replies are sent, whether the replay goes on with the next piece, and the end mark and code with which it stopped.
+// `going`, `ended` and `code` as the promises of specs/Turns.antt, here and of lesson, name them.
 #[derive(Clone, Copy)]
 pub struct Turn {
     pub position: Position,
@@ -54,6 +55,7 @@ pub struct Turn {
 
 // Whether the replay of a piece goes on with the next: it stopped at the end of a piece that is not the last, or at a record that
 // is cut short there.
+// By the fields of a replay, as the definition `goes`.
 fn goes_on(last: bool, ended: bool, code: u8) -> bool
     ensures { result ≡ turns.goes last ended code }
 {

@@ -25,6 +25,7 @@ fn wire_key(ti: u32) -> u32
     }
 }
 
+// One by one, see model::ByMailbox.
 pub fn identifiers(b: ByMailbox<MailboxState>) -> ByMailbox<u32>
     ensures { result ≡ mailboxes.identifiers b }
 {

@@ -8,6 +8,7 @@ use super::last_of;
 use model::{ByMailbox, Mailbox, MailboxState, RequestOrder, Transmit};
 use queue::{holds, sender_number, two_or_more};
 
+// One by one: each has a weight of its own.
 #[tactic(auto, unfolding(crate::specs::Status::as_number))]
 fn as_number(f: ByMailbox<bool>) -> u32
     ensures { (result ≡ status.as_number f) × (result < 8) }
@@ -16,6 +17,7 @@ fn as_number(f: ByMailbox<bool>) -> u32
 }
 
 // TME: the mailbox is empty.
+// One by one, here and below: see model::ByMailbox. What is asked of a mailbox is another thing in each.
 #[tactic(auto, unfolding(crate::specs::Status::tme_bits))]
 fn tme_bits(o: RequestOrder) -> ByMailbox<bool>
     ensures { result ≡ status.tme_bits o }
@@ -28,6 +30,7 @@ fn tme_bits(o: RequestOrder) -> ByMailbox<bool>
 }
 
 // LOW: with two or more not empty, the lowest in priority.
+// One by one, as `tme_bits`.
 #[tactic(auto, using(model::proofs::Compared::equal_is_from), unfolding(crate::specs::Status::low_bits))]
 fn low_bits(o: RequestOrder, last: Option<Mailbox>) -> ByMailbox<bool>
     ensures { result ≡ status.low_bits o last }
@@ -64,6 +67,7 @@ fn tsr_byte(x: MailboxState, abort: bool) -> u32
         + u32::from(abort) * 128
 }
 
+// One by one: each has a byte of its own.
 #[tactic(auto, unfolding(crate::specs::Status::flag_bytes))]
 fn flag_bytes(b: ByMailbox<MailboxState>, f: ByMailbox<bool>) -> u32
     ensures { (result ≡ status.flag_bytes b f) × (result < 2 ^ 24) }

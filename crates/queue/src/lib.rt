@@ -10,6 +10,7 @@ use model::{ByMailbox, Mailbox, Queue, RequestOrder};
 
 // ---- mailboxes and what is kept for each
 
+// 32 bits, for sums and words; the block's byte is a cast of its own (block_save).
 pub fn number(m: Mailbox) -> u32
     ensures { result ≡ queue.number m }
 {
@@ -76,6 +77,7 @@ fn without(o: RequestOrder, m: Mailbox) -> RequestOrder
     }
 }
 
+// Oldest and newest are a match each: every case has another place of the order.
 pub fn oldest(o: RequestOrder) -> Option<Mailbox>
     ensures { result ≡ queue.oldest o }
 {
@@ -110,6 +112,7 @@ pub fn two_or_more(o: RequestOrder) -> bool
 // ---- the mailbox that is transmitting
 
 // The number of a mailbox; 0 where there is none.
+// 0 for none, as CODE and the word of a start have it; the block has 3.
 pub fn sender_number(s: Option<Mailbox>) -> u32
     ensures { result ≡ queue.sender_number s }
 {
@@ -128,6 +131,7 @@ pub fn besides(s: Option<Mailbox>, o: RequestOrder) -> RequestOrder
 
 // ---- what happens to requests
 
+// One by one, see model::ByMailbox.
 pub fn no_requests() -> Queue
     ensures { result ≡ queue.no_requests }
 {
@@ -192,6 +196,7 @@ fn aborted(b: bool, q: Queue, m: Mailbox) -> Queue
     }
 }
 
+// One behind the other: each abort is of the queue that the one before left.
 #[tactic(auto, unfolding(model::specs::Queue::aborted_all))]
 pub fn aborted_all(q: Queue, f: ByMailbox<bool>) -> Queue
     ensures { result ≡ queue.aborted_all q f }

@@ -39,6 +39,7 @@ fn is_from(s: Option<Mailbox>, m: Mailbox) -> bool
     s == Some(m)
 }
 
+// One by one, see model::ByMailbox.
 #[tactic(auto, unfolding(crate::specs::Ranges::queue_ok))]
 fn queue_ok(q: Queue) -> bool
     ensures { result ≡ ranges.queue_ok q }
@@ -70,6 +71,7 @@ fn mailbox_ok(x: MailboxState, pending: bool) -> bool
         && (!pending || !x.rqcp)
 }
 
+// One by one, see model::ByMailbox.
 #[tactic(auto, unfolding(crate::specs::Ranges::transmit_ok))]
 fn transmit_ok(t: Transmit) -> bool
     ensures { result ≡ ranges.transmit_ok t }
@@ -151,6 +153,7 @@ fn fifo_ok(q: FifoState) -> bool
 // ---- filters
 
 // A bit for each bank and no other.
+// The remainder is that of `written` in writes: a name for it would be longer than it.
 fn bank_bits_ok(w: u32) -> bool
     ensures { result ≡ ranges.bank_bits_ok w }
 {

@@ -81,6 +81,7 @@ pub fn start_word(c: Core) -> u32
 // ---- the interrupt lines
 
 // Not `||`: no branch, in every step.
+// One by one, see model::ByMailbox.
 #[tactic(auto, unfolding(model::specs::Step::any_rqcp))]
 fn any_rqcp(t: Transmit) -> bool
     ensures { result ≡ stepping.any_rqcp t }

@@ -24,6 +24,7 @@ fn number32(b: &[u8], i: usize) -> u32
 
 // ---- a decoder for each tag that has a body
 
+// One for each tag, also where two differ in the step alone: each has its promise and its edit.
 pub(crate) fn read_step(b: &[u8]) -> Step
     requires { 2 ≤ length b.now }
     ensures { result ≡ step.Read (scripts.number16 b.now 0) }

@@ -15,7 +15,8 @@ pub(crate) fn place(err: &impl Eprint, records: u64, bytes: u64) -> io::Result<(
     eprint!(err; "replay: record {record} at byte {bytes}: ")
 }
 
-// The bytes with which a lesson begins, at most three, instead of the opening.
+// The bytes with which a lesson begins, at most three, instead of the opening. Not wording's: that has capital hex digits, and what the
+// program writes may not change.
 fn opening(err: &impl Eprint, lesson: &[u8]) -> io::Result<()> {
     eprint!(err; "replay: the lesson doesn't open with 01 00 00, the record of a reset: ")?;
     match lesson {

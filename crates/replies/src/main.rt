@@ -12,6 +12,7 @@ use text::Line;
 const REPLY_LENGTH: usize = 9;
 
 // Past this the text goes out, so that there is always room for a line.
+// The space less a line, as in lesson_text: each program has a space and a limit of its own.
 const ENOUGH_TEXT: usize = 65024;
 
 const NUMBER_WIDTH: usize = 10;

@@ -22,6 +22,7 @@ fn readable(script: &[u8], place: usize, space: usize) -> Reading
 }
 
 // The step that is done. Where there is none, it is one that every state refuses: no bit times at all.
+// So the state has one way through the code: a second one cost over 600 instructions in every record (docs/DECISIONS.md, C9).
 fn step_of(x: Reading) -> Step
     ensures { result ≡ way.step_of x }
 {
@@ -31,6 +32,7 @@ fn step_of(x: Reading) -> Step
     }
 }
 
+// The number of the answer (model::Answer): 0 at the end, of a refusal its own.
 fn code_of(x: Reading, code: u8) -> u8
     ensures { result ≡ way.code_of x code }
 {
@@ -69,6 +71,7 @@ fn write_reply(reply: &mut [u8], answer: Answer)
 }
 
 // The reply to a lesson's opening that is refused, where there is space for it, and the code that is answered: 9 without.
+// A number, for that is what is promised of it, and the caller puts it into a Replayed.
 pub fn refuse_opening(reply: &mut [u8], lines: u8) -> u8
     ensures value { result ≡ base.pick (ltb (length reply.old) 9) 9 11 }
     ensures reply_after { reply.new ≡ scripts.overwritten (base.pick (ltb (length reply.old) 9) [] (scripts.reply 11 lines 0)) reply.old }
@@ -98,6 +101,7 @@ fn write_answer(reply: &mut [u8], ended: bool, answer: Answer)
 }
 
 // What one record gives beside the state: the place behind it, whether the script was at its end, the answer.
+// `ended` and the code as in model::Replayed, which this is with the state beside it.
 #[derive(Clone, Copy)]
 pub struct Recorded {
     pub place: usize,
@@ -149,6 +153,7 @@ pub fn stops(ended: bool, code: u8) -> bool
 }
 
 // How many bytes a record's reply has: none at the end and for code 9.
+// By the fields of a replay, as `stops`.
 pub fn reply_length(ended: bool, code: u8) -> usize
     ensures { result ≡ base.pick (ended || eqb code 9) 0 9 }
 {

@@ -118,6 +118,7 @@ fn print_head(rt: &impl Print) -> io::Result<()> {
     )
 }
 
+// Left and right are the two columns of the picture, and rt is where it goes.
 fn print_row(rt: &impl Print, k: u32, left: &Traffic, right: &Traffic) -> io::Result<()> {
     print!(rt; "{k:>10}")?;
     left.print(rt)?;

@@ -3,6 +3,7 @@ ghost use Rattle.std.specs.Prelude.{◌≡◌};
 ghost use Rattle.starvation.specs.Number as numbers;
 
 // One digit more.
+// As `value` of names, which would bring the table of names with it; std's parse wants a &str, and takes a sign.
 #[tactic(auto, unfolding(crate::specs::Number::with_digit))]
 fn with_digit(n: u32, c: u8) -> Option<u32>
     ensures { result ≡ numbers.with_digit n c }
@@ -14,6 +15,7 @@ fn with_digit(n: u32, c: u8) -> Option<u32>
 }
 
 // A text of one digit or more, and nothing else.
+// std's parse wants a &str, and takes a sign.
 #[tactic(auto, unfolding(crate::specs::Number::parsed))]
 pub fn parsed(text: &[u8]) -> Option<u32>
     ensures { result ≡ numbers.parsed text.now }

@@ -78,6 +78,7 @@ fn mailbox(l: Line, m: u64) -> Line
     l.put(b"mailbox ").decimal(m)
 }
 
+// By the number, as `refused`.
 #[tactic(auto, using(text::proofs::Extending::extends_trans))]
 fn refused_by(l: Line, code: u8) -> Line
     ensures { lines.Extends l result }

@@ -6,6 +6,7 @@ use model::{Frame, Step};
 use std::env::Env;
 
 // Eight active banks, two of each class, one of the two for each FIFO; then Normal.
+// By number, so that what is measured stays what it was: `step` called at one place, and its step made there.
 fn set_up(i: u32) -> Step {
     match i {
         0 => Step::Write(0x204, 0x0033),
@@ -41,6 +42,7 @@ fn frame(i: u32) -> Frame {
 }
 
 // In turn: TSR, MSR, ESR and RF0R read, IER and a bank's word written, the word read, MSR written.
+// By number, as `set_up`: the words go with i.
 fn access(i: u32) -> Step {
     match i % 8 {
         0 => Step::Read(0x008),
@@ -54,6 +56,7 @@ fn access(i: u32) -> Step {
     }
 }
 
+// A flag and no closure: two instances of the loop would be two places that call `step`.
 fn next(registers: bool, i: u32) -> Step {
     if registers {
         access(i)

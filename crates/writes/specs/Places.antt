@@ -57,6 +57,11 @@ changed-nothing v Nothing h = refl
 changed-nothing v (Word p w) h = cc
 changed-nothing v Clear h = cc
 
+-- a hardware reset clears them all
+pub changed-all : (v : List ℕ) → changed v Clear ≡ reset.banks
+unfolding changed
+changed-all v = refl
+
 -- t: this board has the bank
 changed_in : (v : List ℕ) (b : Bank) (i w : ℕ) (t : Bool) → ltb b.0 bank_count ≡ t → changed v (bank_word b i w) ≡ with_bank_word v b i w
 unfolding changed bank_word with_bank_word

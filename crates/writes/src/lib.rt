@@ -7,6 +7,7 @@ ghost use Rattle.writes.specs.Places as places;
 
 use model::{Bank, Core, Fifo, Register};
 
+// The 14 bits of the banks by a remainder, four times: a name for it would be longer than it.
 #[tactic(auto, unfolding(model::specs::Registers::written, model::specs::Registers::core_reset))]
 pub fn written(x: Register, c: Core, w: u32) -> Core
     ensures { result ≡ map.written x c w }

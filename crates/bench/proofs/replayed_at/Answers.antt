@@ -1,6 +1,7 @@
 -- The part of the reply space from the place on is lent to the record.
 use mathlib.Core.Path.{◌≡◌, ap, ◌∙◌}
 use Prim.Native.Nat.{◌-◌}
+use native.Mathlib.Omega.{arith}
 use lib.ListN.{length}
 use Rattle.model.specs.Script.{reply_of}
 use Rattle.script.specs.OneWay.{core_replayed, whole}
@@ -9,7 +10,7 @@ use Rattle.bench.proofs.replayed_at.Goals as goal
 
 pub returns : goal.returns
 returns c =
-    let n : length c.args.replies.now - c.least-from.result ≡ length c.args.replies.now - c.args.written = rw c.least-from.ensures.0 (least_left c.args.written c.args.replies.now) in (
-      c.core_replayed.ensures.value ∙ ap (core_replayed c.args.z c.args.script.now c.args.place) (part_length c.least-from.result c.args.replies.now c.least-from.ensures.1 ∙ n),
-      placed-part c.least-from.result c.args.replies.now c.least-from.ensures.1 (reply_of (whole c.args.z c.core_replayed.result)) c.core_replayed.new.reply c.core_replayed.ensures.reply_after ∙ rw c.least-from.ensures.0 (least-placed c.args.written c.args.replies.now (reply_of (whole c.args.z c.core_replayed.result))),
+    let n : length c.args.replies.now - c.min-from.result ≡ length c.args.replies.now - c.args.written = rw c.min-from.ensures (least_left c.args.written c.args.replies.now) in (
+      c.core_replayed.ensures.value ∙ ap (core_replayed c.args.z c.args.script.now c.args.place) (part_length c.min-from.result c.args.replies.now (omega arith) ∙ n),
+      placed-part c.min-from.result c.args.replies.now (omega arith) (reply_of (whole c.args.z c.core_replayed.result)) c.core_replayed.new.reply c.core_replayed.ensures.reply_after ∙ rw c.min-from.ensures (least-placed c.args.written c.args.replies.now (reply_of (whole c.args.z c.core_replayed.result))),
     )
