@@ -210,10 +210,6 @@ impl Session {
 fn main(rt: HostRuntime) {
     let mut session = Session::begun(&rt);
     // A proved loop has to end, and nothing says that the input does: no run uses so many turns up.
-    for _ in 0..u64::MAX {
-        if session.turn().is_break() {
-            break;
-        }
-    }
+    let _ = (0..u64::MAX).try_for_each(|_| session.turn());
     let _ = session.flush();
 }

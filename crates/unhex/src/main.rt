@@ -75,15 +75,11 @@ fn turn<R: Read>(
 
 fn main(rt: HostRuntime) {
     let mut space = [0; 65536];
-    let mut reader = Reader::start();
     // A proved loop has to end, and nothing says that the input does: no run uses so many turns up.
-    for _ in 0..u64::MAX {
-        match turn(&rt, &mut rt.stdin(), &mut space, reader) {
-            Ok(next) => reader = next,
-            Err(stop) => {
-                let _ = eprint!(rt; "{stop}");
-                return;
-            }
-        }
+    let read = (0..u64::MAX).try_fold(Reader::start(), |reader, _| {
+        turn(&rt, &mut rt.stdin(), &mut space, reader)
+    });
+    if let Err(stop) = read {
+        let _ = eprint!(rt; "{stop}");
     }
 }
