@@ -1,4 +1,5 @@
-// What a step of a lesson must answer, whether an answer is that, and the eight bytes in which one program hands it to another.
+// What a step of a lesson must answer, whether an answer is that, and the tag and the eight bytes in which one program hands it to
+// another.
 #![tactic(auto)]
 
 ghost use Rattle.std.specs.Prelude.{◌≡◌};
@@ -6,6 +7,11 @@ ghost use Rattle.expected.specs.Bytes as items;
 ghost use Rattle.expected.specs.Holds as expectations;
 
 use model::Answer;
+
+// The tags of what one program hands the other: bytes of a script, and what a step must answer.
+pub const SCRIPT: u8 = 1;
+
+pub const EXPECTATION: u8 = 2;
 
 // What a step answers by itself; a refusal has the word 0. Not a word or a refusal: the program trace takes any code with any word, and
 // compares both.

@@ -5,7 +5,7 @@
 
 use arrayvec::ArrayVec;
 use command_line::ArgumentsError;
-use expected::Expected;
+use expected::{EXPECTATION, Expected, SCRIPT};
 use lines::{Fault, Meaning};
 use names::scan::{value, word_at};
 use say::Rule;
@@ -28,13 +28,8 @@ const LONGEST_REPEAT: usize = 60000;
 // Past this the bytes go out, so that there is always room for those of a line.
 const ENOUGH: usize = 64000;
 
-// An item has a tag, the length of its body in two bytes, and the body; numbers have their low byte first.
-// The tags, which trace reads: an enum with a conversion to and from its byte would be no plainer.
-const SCRIPT: u8 = 1;
-
-const EXPECTATION: u8 = 2;
-
-// What is written: the script, nothing, or items.
+// What is written: the script, nothing, or items. An item has a tag, the length of its body in two bytes, and the body; numbers have
+// their low byte first.
 #[derive(Clone, Copy, PartialEq, Eq)]
 enum Mode {
     Script,

@@ -8,7 +8,7 @@ use account::faults::Fault;
 use account::reasons::Reason;
 use arrayvec::ArrayVec;
 use command_line::ArgumentsError;
-use expected::Expected;
+use expected::{EXPECTATION, Expected, SCRIPT};
 use model::{Answer, Controller, Refusal, Step};
 use std::env::Env;
 use std::io::{Stderr, Stdin, Stdout};
@@ -27,11 +27,6 @@ const HEAD: usize = 3;
 const LONGEST_BODY: usize = 1000;
 
 const LONGEST_ITEM: usize = HEAD + LONGEST_BODY;
-
-// Two tags, read here and written by lesson_write: an enum with a conversion to and from its byte would be no plainer.
-const SCRIPT: u8 = 1;
-
-const EXPECTATION: u8 = 2;
 
 const EXPECTATION_LENGTH: usize = HEAD + 16;
 
