@@ -1,5 +1,6 @@
 -- What there is to say of a step. a is what the step gives.
 use Rattle.model.specs.Registers.{register_at}
+use Rattle.model.specs.Replies.{answer_of}
 use Rattle.account.specs.Accesses.{offset_of}
 use Rattle.model.specs.declared.Controller.{Controller}
 use Rattle.model.specs.declared.Stepped.{Stepped}
@@ -11,9 +12,7 @@ use Rattle.account.specs.declared.Account.{Account}
 unfoldable pub account_of : Controller → steps.Step → Stepped → Account
 account_of z e a = record {
   register = register_at (offset_of e);
-  code = a.code;
-  lines = a.lines;
-  word = a.word;
+  answer = answer_of a;
   reason = of_step (bus_of z.core) e (register_at (offset_of e));
   taken = taken_by z.core.filters z.banks e;
   old = view_of z.core;

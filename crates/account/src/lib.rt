@@ -9,7 +9,8 @@ ghost use Rattle.account.specs.Accounts as accounts;
 ghost use Rattle.account.specs.Views as views;
 
 use model::{
-    Controller, Core, Fifo, FilterNumber, Filters, Mailbox, Mode, Queue, Register, Step, Stepped,
+    Answer, Controller, Core, Fifo, FilterNumber, Filters, Mailbox, Mode, Queue, Register, Step,
+    Stepped,
 };
 use reasons::{Bus, Reason};
 
@@ -102,13 +103,11 @@ pub fn changes(old: [Aspect; 12], new: [Aspect; 12]) -> [Option<Aspect>; 12]
 
 // ---- the account
 
-// `taken`: of a frame, which filter of which FIFO took it, if any did. Code, lines and word are the step's answer (model::Stepped).
+// `taken`: of a frame, which filter of which FIFO took it, if any did.
 #[derive(Clone, Copy)]
 pub struct Account {
     pub register: Register,
-    pub code: u8,
-    pub lines: u8,
-    pub word: u32,
+    pub answer: Answer,
     pub reason: Option<Reason>,
     pub taken: Option<Option<(Fifo, FilterNumber)>>,
     pub old: [Aspect; 12],
@@ -144,9 +143,11 @@ pub fn account_of(z: Controller, e: Step, a: Stepped) -> Account
     let register = register_of(e);
     Account {
         register,
-        code: a.code,
-        lines: a.lines,
-        word: a.word,
+        answer: Answer {
+            code: a.code,
+            lines: a.lines,
+            word: a.word,
+        },
         reason: Bus::of_core(z.core).against_step(e, register),
         taken: taken_by(z.core.filters, &z.banks, e),
         old: view_of(z.core),

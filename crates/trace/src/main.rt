@@ -326,15 +326,11 @@ impl Session {
     // The line of a step, and what waited for its answer.
     fn tell(&mut self, e: Step, length: usize, a: Account) -> ControlFlow<()> {
         self.records = self.records.wrapping_add(1);
-        self.refused = self.refused.wrapping_add(u64::from(a.code != 0));
+        self.refused = self.refused.wrapping_add(u64::from(a.answer.code != 0));
         self.bytes = self.bytes.wrapping_add(length as u64);
         self.script.pass(length);
         self.last = Last::Step(a.reason);
-        self.answer = Answer {
-            code: a.code,
-            lines: a.lines,
-            word: a.word,
-        };
+        self.answer = a.answer;
         self.store(wording::line(self.records, e, a));
         self.check_pending()
     }

@@ -146,10 +146,10 @@ pub fn line(n: u64, e: Step, a: Account) -> Line
 {
     let b = Line::empty().right(n, NUMBER_WIDTH).put(b"  ");
     let c = phrases::step(b, e, true).column(ANSWER_COLUMN);
-    if a.code != 0 {
-        return lines(refused(c, a.code, a.reason), a.lines).byte(b'\n');
+    if a.answer.code != 0 {
+        return lines(refused(c, a.answer.code, a.reason), a.answer.lines).byte(b'\n');
     }
-    let d = lines(done(c, e, a.word), a.lines);
+    let d = lines(done(c, e, a.answer.word), a.answer.lines);
     changes::told(d, a.taken, account::changes(a.old, a.new)).byte(b'\n')
 }
 
