@@ -40,21 +40,20 @@ impl Session {
     }
 
     fn flush(&mut self) -> ControlFlow<()> {
-        if stream::send(&mut self.waiting, &mut self.stdout).is_err() {
-            let _ = eprintln!(self.stderr;
-                "lesson_text: standard output can't be written, the rest is lost"
-            );
-            return ControlFlow::Break(());
-        }
-        ControlFlow::Continue(())
+        stream::flush(
+            &mut self.waiting,
+            &mut self.stdout,
+            &self.stderr,
+            "lesson_text",
+        )
     }
 
     // All text goes out before more is read.
     fn read_on(&mut self) -> ControlFlow<()> {
         self.flush()?;
-        if self.input.read_on(&mut self.stdin).is_err() {
-            let _ = eprintln!(self.stderr; "lesson_text: standard input can't be read");
-        }
+        let _ = self
+            .input
+            .read_on_or_tell(&mut self.stdin, &self.stderr, "lesson_text");
         ControlFlow::Continue(())
     }
 

@@ -106,23 +106,21 @@ impl Session {
     // ---- input and output
 
     fn flush(&mut self) -> ControlFlow<()> {
-        if stream::send(&mut self.waiting, &mut self.stdout).is_err() {
-            let _ = eprintln!(self.stderr;
-                "lesson_write: standard output can't be written, the rest is lost"
-            );
-            return ControlFlow::Break(());
-        }
-        ControlFlow::Continue(())
+        stream::flush(
+            &mut self.waiting,
+            &mut self.stdout,
+            &self.stderr,
+            "lesson_write",
+        )
     }
 
     // All bytes go out before more is read.
     fn read_on(&mut self, input: &mut Input<65536>) -> ControlFlow<()> {
         self.flush()?;
-        if input.read_on(&mut self.stdin).is_err() {
-            let _ = eprintln!(self.stderr; "lesson_write: standard input can't be read");
-            return ControlFlow::Break(());
+        match input.read_on_or_tell(&mut self.stdin, &self.stderr, "lesson_write") {
+            Ok(_) => ControlFlow::Continue(()),
+            Err(_) => ControlFlow::Break(()),
         }
-        ControlFlow::Continue(())
     }
 
     // ---- what a line gives

@@ -90,21 +90,15 @@ impl Session {
     }
 
     fn flush(&mut self) -> ControlFlow<()> {
-        if stream::send(&mut self.waiting, &mut self.stdout).is_err() {
-            let _ = eprintln!(self.stderr;
-                "replies: standard output can't be written, the rest is lost"
-            );
-            return ControlFlow::Break(());
-        }
-        ControlFlow::Continue(())
+        stream::flush(&mut self.waiting, &mut self.stdout, &self.stderr, "replies")
     }
 
     // All text goes out before more is read.
     fn read_on(&mut self) -> ControlFlow<()> {
         self.flush()?;
-        if self.input.read_on(&mut self.stdin).is_err() {
-            let _ = eprintln!(self.stderr; "replies: standard input can't be read");
-        }
+        let _ = self
+            .input
+            .read_on_or_tell(&mut self.stdin, &self.stderr, "replies");
         ControlFlow::Continue(())
     }
 

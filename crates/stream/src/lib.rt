@@ -2,12 +2,14 @@
 #![tactic(auto)]
 
 ghost use Rattle.std.specs.Prelude.{◌≡◌, [], OnOk};
+ghost use Rattle.std.specs.ControlFlow.{ForContinue};
 ghost use Rattle.std.specs.Io.KnownBytes.{Appends};
 
 use arrayvec::ArrayVec;
 use std::io;
 use std::io::{Read, Write};
 use std::marker::Model;
+use std::ops::ControlFlow;
 
 // ---- input
 
@@ -99,6 +101,22 @@ impl<const N: usize> Input<N> {
         }
         read
     }
+
+    // As `read_on`; where that fails, the program of that name tells it.
+    pub fn read_on_or_tell<R: Read>(
+        &mut self,
+        reader: &mut R,
+        err: &impl Eprint,
+        program: &str,
+    ) -> io::Result<usize>
+        ensures { ReadOn N (R.remaining reader.old) (R.remaining reader.new) self.old self.new result }
+    {
+        let read = self.read_on(reader);
+        if read.is_err() {
+            let _ = eprintln!(err; "{program}: standard input can't be read");
+        }
+        read
+    }
 }
 
 // ---- output
@@ -114,4 +132,21 @@ pub fn send<const N: usize, W: Write>(
     let sent = writer.write_all(waiting.as_slice());
     waiting.clear();
     sent
+}
+
+// As `send`; where that fails, the program of that name tells it, and breaks off.
+pub fn flush<const N: usize, W: Write>(
+    waiting: &mut ArrayVec<u8, N>,
+    writer: &mut W,
+    err: &impl Eprint,
+    program: &str,
+) -> ControlFlow<()>
+    ensures emptied { waiting.new.items ≡ [] }
+    ensures sent { ForContinue result (λ _. Appends (W.contents writer.old) (W.contents writer.new) waiting.old.items) }
+{
+    if send(waiting, writer).is_err() {
+        let _ = eprintln!(err; "{program}: standard output can't be written, the rest is lost");
+        return ControlFlow::Break(());
+    }
+    ControlFlow::Continue(())
 }

@@ -105,13 +105,7 @@ impl Session {
     }
 
     fn flush(&mut self) -> ControlFlow<()> {
-        if stream::send(&mut self.waiting, &mut self.stdout).is_err() {
-            let _ = eprintln!(self.stderr;
-                "trace: standard output can't be written, the rest is lost"
-            );
-            return ControlFlow::Break(());
-        }
-        ControlFlow::Continue(())
+        stream::flush(&mut self.waiting, &mut self.stdout, &self.stderr, "trace")
     }
 
     // A line goes behind the text that waits.
@@ -122,9 +116,9 @@ impl Session {
     // All text goes out before more is read.
     fn read_on(&mut self) -> ControlFlow<()> {
         self.flush()?;
-        if self.items.read_on(&mut self.stdin).is_err() {
-            let _ = eprintln!(self.stderr; "trace: standard input can't be read");
-        }
+        let _ = self
+            .items
+            .read_on_or_tell(&mut self.stdin, &self.stderr, "trace");
         ControlFlow::Continue(())
     }
 
