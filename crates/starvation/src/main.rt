@@ -10,8 +10,8 @@ use std::io;
 mod number;
 
 // The traffic through one controller: what it is after the last turn, whether mailbox 0 still waits, how many frames of others
-// ended well while it did, which mailbox was started last, TSR while its frame was on the wire, and whether every answer so
-// far was the one that is expected.
+// ended well while it did, which mailbox was started last, and TSR while its frame was on the wire. There is none where an answer
+// of the controller is not the expected one.
 #[derive(Clone, Copy)]
 struct Traffic {
     controller: Controller,
@@ -19,7 +19,6 @@ struct Traffic {
     sent: u32,
     tsr: u32,
     waits: bool,
-    good: bool,
 }
 
 // The mailbox that was sent before is filled again; mailbox 0 is not, and then TSR is read.
@@ -33,9 +32,8 @@ fn filled(sent: u32) -> Step {
 
 impl Traffic {
     // To Normal, with TXFP or without; mailboxes 1 and 2 ask, then mailbox 0.
-    fn opened(txfp: bool) -> Self {
+    fn opened(txfp: bool) -> Option<Self> {
         let mut controller = controller::reset();
-        let mut good = true;
         for step in [
             Step::Write(0x000, if txfp { 4 } else { 0 }),
             Step::Idle,
@@ -45,20 +43,21 @@ impl Traffic {
         ] {
             let a = controller::step(controller, step);
             controller = a.controller;
-            good = good && a.code == 0;
+            if a.code != 0 {
+                return None;
+            }
         }
-        Traffic {
+        Some(Traffic {
             controller,
             others: 0,
             sent: 0,
             tsr: 0,
             waits: true,
-            good,
-        }
+        })
     }
 
     // A start, the filling, a look at TSR, a good end, and another look: mailbox 0 must be empty exactly when it was sent.
-    fn turned(self) -> Self {
+    fn turned(self) -> Option<Self> {
         let a = controller::step(self.controller, Step::Start);
         let b = controller::step(a.controller, filled(self.sent));
         let c = controller::step(b.controller, Step::Read(0x008));
@@ -66,14 +65,14 @@ impl Traffic {
         let e = controller::step(d.controller, Step::Read(0x008));
         let waits = self.waits && a.word != 0;
         let done = a.code == 0 && b.code == 0 && c.code == 0 && d.code == 0 && e.code == 0;
-        Traffic {
+        let good = done && waits != bits::bit(26, e.word);
+        good.then_some(Traffic {
             controller: e.controller,
             others: self.others.wrapping_add(u32::from(waits)),
             sent: a.word,
             tsr: c.word,
             waits,
-            good: self.good && done && waits != bits::bit(26, e.word),
-        }
+        })
     }
 
     // ---- the picture
@@ -165,17 +164,25 @@ fn print_result(rt: &impl Print, left: &Traffic, right: &Traffic) -> io::Result<
 
 // ---- the program
 
+fn complain(rt: &impl Eprint) -> io::Result<()> {
+    eprintln!(rt; "starvation: an answer of the controller is not the expected one")
+}
+
 fn show(rt: &(impl Print + Eprint), n: u32) -> io::Result<()> {
     let last = n.max(3);
-    let mut left = Traffic::opened(false);
-    let mut right = Traffic::opened(true);
     print_head(rt)?;
+    let (Some(mut left), Some(mut right)) = (Traffic::opened(false), Traffic::opened(true)) else {
+        return complain(rt);
+    };
     for k in 1..=last {
-        left = left.turned();
-        right = right.turned();
-        if !left.good || !right.good || !left.waits {
-            return eprintln!(rt; "starvation: an answer of the controller is not the expected one");
+        let (Some(l), Some(r)) = (left.turned(), right.turned()) else {
+            return complain(rt);
+        };
+        if !l.waits {
+            return complain(rt);
         }
+        left = l;
+        right = r;
         print_turn(rt, k, last, &left, &right)?;
     }
     print_result(rt, &left, &right)
