@@ -27,10 +27,7 @@ fn distinct(o: RequestOrder) -> bool
 fn carried(s: Option<Mailbox>, o: RequestOrder) -> bool
     ensures { result ≡ reachable.carried s o }
 {
-    match s {
-        None => true,
-        Some(m) => queue::holds(o, m),
-    }
+    s.is_none_or(|m| queue::holds(o, m))
 }
 
 fn is_from(s: Option<Mailbox>, m: Mailbox) -> bool
@@ -217,24 +214,19 @@ fn wire_ok(k: Control, free: bool, off: bool) -> bool
 fn followed_ok(k: Control, free: bool) -> bool
     ensures { result ≡ ranges.followed_ok k free }
 {
+    // By the bits, as the definition compares them.
     let next = control::mode_next(k.mode, control::inrq(k), control::sleep(k));
     !free || control::mode_bits(next) == control::mode_bits(k.mode)
 }
 
 // ---- the controller
 
-fn is_free(q: Queue) -> bool
-    ensures { result ≡ queues.is_nobody q.transmitting }
-{
-    q.transmitting.is_none()
-}
-
 #[tactic(auto, unfolding(crate::specs::Ranges::in_range))]
 pub fn in_range(c: Core) -> bool
     ensures { result ≡ ranges.in_range c }
 {
     let off = control::boff(c.errors);
-    let free = is_free(c.transmit.queue);
+    let free = c.transmit.queue.transmitting.is_none();
     control_ok(c.control)
         && errors_ok(c.errors)
         && recovery_ok(c.control, off)
