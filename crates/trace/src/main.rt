@@ -359,6 +359,7 @@ fn item_length(rest: &[u8]) -> usize {
 // ---- the program
 
 // Whether the input is the items of a lesson.
+// Each program has its own: no contract can say what a command line holds, and four lines are no plainer as a call.
 fn is_lesson(rt: &impl Env) -> Result<bool, ArgumentsError> {
     let mut text = [0; 4096];
     let given = command_line::argument(rt, &mut text);
