@@ -87,6 +87,7 @@ impl Session {
 }
 
 // Whether the script is a lesson.
+// Each program has its own: no contract can say what a command line holds, and four lines are no plainer as a call.
 fn is_lesson(rt: &impl Env) -> Result<bool, ArgumentsError> {
     let mut text = [0; 4096];
     let given = command_line::argument(rt, &mut text);
