@@ -210,13 +210,11 @@ fn wire_ok(k: Control, free: bool, off: bool) -> bool
         && (free || !(control::silm(k) && !control::lbkm(k)))
 }
 
-#[tactic(auto, unfolding(crate::specs::Ranges::followed_ok))]
+#[tactic(auto, using(crate::proofs::Modes::equal_bits), unfolding(crate::specs::Ranges::followed_ok))]
 fn followed_ok(k: Control, free: bool) -> bool
     ensures { result ≡ ranges.followed_ok k free }
 {
-    // By the bits, as the definition compares them.
-    let next = control::mode_next(k.mode, control::inrq(k), control::sleep(k));
-    !free || control::mode_bits(next) == control::mode_bits(k.mode)
+    !free || control::mode_next(k.mode, control::inrq(k), control::sleep(k)) == k.mode
 }
 
 // ---- the controller
