@@ -65,7 +65,7 @@ fn later(i: ByMailbox<u32>, a: Mailbox, b: Mailbox) -> Mailbox
     if before(i, a, b) { b } else { a }
 }
 
-// First and last are two functions each: one over a closure that keeps one of two would promise only what the closure gave.
+// First and last are two functions each: over a closure that keeps one of two they would be no shorter.
 #[tactic(auto, unfolding(model::specs::Mailboxes::first_in_wire_order))]
 fn first_in_wire_order(i: ByMailbox<u32>, o: RequestOrder) -> Option<Mailbox>
     ensures { result ≡ mailboxes.first_in_wire_order i o }
