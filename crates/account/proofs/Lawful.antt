@@ -4,7 +4,7 @@ use Rattle.std.proofs.lemmas.Bool.{or_left, or_right}
 use mathlib.Core.Path.{◌≡◌, refl}
 use mathlib.Core.Bool.{Bool, true, false, not, ◌&&◌, ◌||◌, true≢false}
 use mathlib.Core.List.{List}
-use Prim.Native.Nat.{ℕ, ◌+◌, ◌-◌, ◌%◌}
+use Prim.Native.Nat.{ℕ, ◌+◌, ◌%◌}
 use native.Mathlib.Nat.{sub-zero}
 use lib.Dec.{eqb, ltb, leb}
 use lib.ListN.{length, get_or}
@@ -23,43 +23,49 @@ use Rattle.model.specs.declared.Register.TheVariants.{Mcr, Msr, Tsr, Rfr, Ier, E
 use Rattle.model.specs.declared.Step as steps
 use Rattle.model.specs.declared.Step.TheVariants.{Reset, Read, Write, Idle, BitTimes, Activity, Start, Outcome, Receive, ReceiveError}
 use Rattle.account.specs.Reasons.{reason_number, number_of, of_step, of_offset, of_write, of_bus, of_start, of_reception, of_outcome, of_frame, of_error}
-use Rattle.account.specs.Faults.{kind_of, refusal_of, fault_in}
+use Rattle.account.specs.Faults.{bytes_in, kind_number, kind_of, refusal_of, fault_in}
 use Rattle.account.specs.declared.reasons.Reason.{Reason}
 use Rattle.account.specs.declared.reasons.Reason.TheVariants.{Misaligned, NoRegister, UnknownResult, IdentifierBit, ExtendedBits, LengthCode, ErrorCode, ErrorStep, OwnFrame, NotNormal, BusOff, NonePending, Silent, NoOwnFrame, Acknowledged, Loopback, FilterInitialization, ErrorActive}
-use Rattle.account.specs.Laws.{codes_of, reason_of, says, says_of_record, Placed, Reasoned, Faulty}
+use Rattle.account.specs.Laws.{codes_of, reason_of, says, says_of_record, told_index, Placed, Reasoned, Faulty}
 use Rattle.model.specs.Script.{Reading}
 use Rattle.model.specs.Refusals.{code}
 use Rattle.model.specs.declared.Refusal.{Refusal}
 use Rattle.model.specs.declared.Refusal.TheVariants.{Short, UnknownTag, WrongLength}
-use Rattle.account.specs.declared.faults.Fault.{Fault}
-use Rattle.account.specs.declared.faults.Fault.TheVariants as fault
+use Rattle.account.specs.declared.faults.Kind.{Kind}
+use Rattle.account.specs.declared.faults.Kind.TheVariants as kind
 
 -- ---- registers
 
+-- an offset that no register has is told with no number
+no_number : (aligned : Bool) → told_index (Some (pick aligned NoRegister Misaligned)) 0 ≡ 0
+no_number true = refl
+no_number false = refl
+
 pub placed : (g : Register) → Placed g
-placed Mcr = record { offset = refl }
-placed Msr = record { offset = refl }
-placed Tsr = record { offset = refl }
-placed (Rfr f) = record { offset = refl }
-placed Ier = record { offset = refl }
-placed Esr = record { offset = refl }
-placed Btr = record { offset = refl }
-placed (Ti m) = record { offset = refl }
-placed (Tdt m) = record { offset = refl }
-placed (Tdl m) = record { offset = refl }
-placed (Tdh m) = record { offset = refl }
-placed (Ri f) = record { offset = refl }
-placed (Rdt f) = record { offset = refl }
-placed (Rdl f) = record { offset = refl }
-placed (Rdh f) = record { offset = refl }
-placed Fmr = record { offset = refl }
-placed Fm1r = record { offset = refl }
-placed Fs1r = record { offset = refl }
-placed Ffa1r = record { offset = refl }
-placed Fa1r = record { offset = refl }
-placed (R1 b) = record { offset = refl }
-placed (R2 b) = record { offset = refl }
-placed Absent = record { offset = refl }
+unfolding of_write of_offset
+placed Mcr = record { offset = refl; told = λ o. refl }
+placed Msr = record { offset = refl; told = λ o. refl }
+placed Tsr = record { offset = refl; told = λ o. refl }
+placed (Rfr f) = record { offset = refl; told = λ o. refl }
+placed Ier = record { offset = refl; told = λ o. refl }
+placed Esr = record { offset = refl; told = λ o. refl }
+placed Btr = record { offset = refl; told = λ o. refl }
+placed (Ti m) = record { offset = refl; told = λ o. refl }
+placed (Tdt m) = record { offset = refl; told = λ o. refl }
+placed (Tdl m) = record { offset = refl; told = λ o. refl }
+placed (Tdh m) = record { offset = refl; told = λ o. refl }
+placed (Ri f) = record { offset = refl; told = λ o. refl }
+placed (Rdt f) = record { offset = refl; told = λ o. refl }
+placed (Rdl f) = record { offset = refl; told = λ o. refl }
+placed (Rdh f) = record { offset = refl; told = λ o. refl }
+placed Fmr = record { offset = refl; told = λ o. refl }
+placed Fm1r = record { offset = refl; told = λ o. refl }
+placed Fs1r = record { offset = refl; told = λ o. refl }
+placed Ffa1r = record { offset = refl; told = λ o. refl }
+placed Fa1r = record { offset = refl; told = λ o. refl }
+placed (R1 b) = record { offset = refl; told = λ o. refl }
+placed (R2 b) = record { offset = refl; told = λ o. refl }
+placed Absent = record { offset = refl; told = λ o. no_number (eqb (o % 4) 0) }
 
 -- ---- reasons
 
@@ -280,21 +286,21 @@ abbrev record_says : Bool → Bool → Bool → Bool → Bool → ℕ → Bool
 record_says short whole tag same few n =
     (eqb n 0 && short) || (eqb n 1 && same && few) || (eqb n 2 && tag && not same) || (eqb n 3 && whole && not tag)
 
--- n bytes of a record with tag t, whose length says l where w are wanted
-module _ (n l t w : ℕ) where
-  abbrev fault_by : Refusal → Bool → Fault
-  fault_by r short =
-      pick (eqb (code r) 8) (fault.WrongLength l t w)
-      (pick (eqb (code r) 7) (fault.UnknownTag t) (pick short (fault.ShortHeader n) (fault.ShortBody (n - 3) w)))
+-- the kind where n bytes are told of a record, whose length says l
+module _ (n l : ℕ) where
+  abbrev kind_by : Refusal → Bool → Kind
+  kind_by r short =
+      pick (eqb (code r) 8) (kind.WrongLength l)
+      (pick (eqb (code r) 7) (kind.UnknownTag n) (pick short (kind.ShortHeader n) (kind.ShortBody n)))
 
   of_record : (ended short tag same few : Bool) (e : steps.Step) (q : ℕ) (r : Refusal)
       → read ended short tag same few e q ≡ Err r
-      → (record_says short (not short) tag same few (kind_of (fault_by r short)) ≡ true) × (refusal_of (fault_by r short) ≡ r)
+      → record_says short (not short) tag same few (kind_number (kind_by r short)) ≡ true
   of_record true short tag same few e q r h = absurd (no_end r h)
-  of_record false true tag same few e q r h = rw (← same_refusal Short r h) (refl, refl)
-  of_record false false false same few e q r h = rw (← same_refusal UnknownTag r h) (refl, refl)
-  of_record false false true false few e q r h = rw (← same_refusal WrongLength r h) (refl, refl)
-  of_record false false true true true e q r h = rw (← same_refusal Short r h) (refl, refl)
+  of_record false true tag same few e q r h = rw (← same_refusal Short r h)
+  of_record false false false same few e q r h = rw (← same_refusal UnknownTag r h)
+  of_record false false true false few e q r h = rw (← same_refusal WrongLength r h)
+  of_record false false true true true e q r h = rw (← same_refusal Short r h)
   of_record false false true true false e q r h = absurd (no_step_lem e q r h)
 
 -- a header is whole where it is not short
@@ -305,15 +311,19 @@ whole n = at (ltb n 3) refl
     at true e = lt-leb 3 n (ltb-true n 3 e)
     at false e = le-leb 3 n (ltb-false n 3 e)
 
-read_so : (s : List ℕ) (r : Refusal) → reading s 0 ≡ Err r
-    → (says_of_record s (kind_of (fault_in r s)) ≡ true) × (refusal_of (fault_in r s) ≡ r)
+read_so : (s : List ℕ) (r : Refusal) → reading s 0 ≡ Err r → says_of_record s (kind_of (fault_in r s)) ≡ true
 unfolding reading says_of_record fault_in
 read_so s r h =
     rw (whole (length s))
-    (of_record (length s) (number16 s 1) (byte_at s 0) (body_length (byte_at s 0))
+    (of_record (bytes_in s) (number16 s 1)
     (leb (length s) 0) (ltb (length s) 3) (is_tag (byte_at s 0)) (eqb (number16 s 1) (body_length (byte_at s 0)))
     (ltb (length s) (3 + body_length (byte_at s 0)))
     (decoded (byte_at s 0) (part s 3 (3 + body_length (byte_at s 0)))) (3 + body_length (byte_at s 0)) r (rw sub-zero at h))
 
+-- the refusal of a fault is the one that is given, whatever is read
+keeps_refusal : (s : List ℕ) (r : Refusal) → refusal_of (fault_in r s) ≡ r
+unfolding fault_in
+keeps_refusal s r = refl
+
 pub faulty : (s : List ℕ) (r : Refusal) → Faulty s r
-faulty s r = record { holds = λ h. (read_so s r h).0; refused = λ h. (read_so s r h).1 }
+faulty s r = record { holds = read_so s r; refused = λ h. keeps_refusal s r }

@@ -1,9 +1,9 @@
--- What the numbers of an account promise: a register's number leads back to its offset, the reason for a refusal belongs to
+-- What the numbers of an account promise: a register's number leads back to its offset and is what is told of it, the reason for a refusal belongs to
 -- the code that is given and is true, and what is said of a record that can't be read is true.
 -- Document 01: "Register map", "Refusal numbers", "Bench script".
-use Rattle.std.specs.Prelude.{◌≡◌, Bool, true, false, not, ◌&&◌, ◌||◌, List, [], ◌∷◌, ℕ, ◌+◌, ◌*◌, ◌%◌, eqb, ltb, leb, length, get_or, Err}
+use Rattle.std.specs.Prelude.{◌≡◌, Bool, true, false, not, ◌&&◌, ◌||◌, List, [], ◌∷◌, ℕ, ◌+◌, ◌*◌, ◌%◌, eqb, ltb, leb, length, get_or, Err, Option, Some}
 use Rattle.base.specs.Base.{bit, bits}
-use Rattle.model.specs.Queue.{is_empty}
+use Rattle.model.specs.Queue.{is_empty, number}
 use Rattle.model.specs.Control.{is_sleep, is_normal, epvf, boff, lbkm, silm}
 use Rattle.model.specs.Registers.{register_at, is_absent, is_free, write_refusal}
 use Rattle.model.specs.Codes.{is_output}
@@ -17,8 +17,10 @@ use Rattle.model.specs.declared.Refusal.{Refusal}
 use Rattle.model.specs.declared.Register.{Register}
 use Rattle.model.specs.declared.Step as steps
 use Rattle.model.specs.declared.Step.TheVariants.{Reset, Read, Write, Idle, BitTimes, Activity, Start, Outcome, Receive, ReceiveError}
+use Rattle.account.specs.declared.reasons.Reason.{Reason}
+use Rattle.account.specs.declared.reasons.Reason.TheVariants.{MailboxNotEmpty, BankActive}
 use Rattle.account.specs.Places.{place_of}
-use Rattle.account.specs.Reasons.{bus_of, number_of, of_step}
+use Rattle.account.specs.Reasons.{bus_of, number_of, of_step, of_write}
 use Rattle.account.specs.Faults.{kind_of, refusal_of, fault_in}
 
 -- ---- registers
@@ -33,8 +35,16 @@ first_offsets =
 abbrev pub distances : List ℕ
 distances = 0 ∷ 0 ∷ 0 ∷ 4 ∷ 0 ∷ 0 ∷ 0 ∷ 16 ∷ 16 ∷ 16 ∷ 16 ∷ 16 ∷ 16 ∷ 16 ∷ 16 ∷ 0 ∷ 8 ∷ 8 ∷ []
 
+-- the number that a reason is told with: its mailbox's or its bank's; any other is told with none, and leaves the given one
+abbrev pub told_index : Option Reason → ℕ → ℕ
+told_index (Some (MailboxNotEmpty m)) i = number m
+told_index (Some (BankActive b)) i = b.0
+told_index r i = i
+
+-- a register's number leads back to its offset, and a write to it that is refused is told with that number, whatever the offset
 pub record Placed (g : Register) : Type 0 where
   pub offset : get_or first_offsets (place_of g).kind 0 + get_or distances (place_of g).kind 0 * (place_of g).index ≡ codes.offset_of g
+  pub told : (o : ℕ) → told_index (of_write g o) (place_of g).index ≡ (place_of g).index
 
 -- ---- reasons
 

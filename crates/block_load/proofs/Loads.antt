@@ -5,10 +5,12 @@ use mathlib.Core.Path.{◌≡◌, refl, sym, ap, ◌∙◌}
 use Prim.Native.Nat.{ℕ}
 use lib.ListN.{length, drop}
 use borrow.Author.Tests.{eq-eqb, ne_eqb}
-use Rattle.std.proofs.Common.{Ok, Err}
+use Rattle.std.proofs.Common.{Ok, Err, Result}
 use Rattle.base.specs.Base.{pick}
 use Rattle.base.proofs.Choices.{Is, Not, and-not}
 use Rattle.model.specs.Refusals.{code_of}
+use Rattle.model.specs.Registers.{reset}
+use Rattle.model.specs.declared.Controller.{Controller}
 use Rattle.model.specs.declared.Core.{Core}
 use Rattle.model.specs.declared.Refusal.{Refusal}
 use Rattle.model.specs.declared.Refusal.TheVariants.{BadBlock}
@@ -16,7 +18,7 @@ use Rattle.ranges.specs.Ranges.{in_range}
 use Rattle.block.specs.Block.{block_length, core_at, words_of, decoded, canonical}
 use Rattle.block.specs.Loading.{right_length, accepts, load_code, core_loaded, banks_loaded, loaded}
 use Rattle.block.proofs.Exactly.{accepted-length}
-use Rattle.block_load.specs.Loaded.{loaded_core, loaded_whole, Coded}
+use Rattle.block_load.specs.Loaded.{loaded_core, loaded_whole, given_or, Coded}
 
 -- ---- a block that is not accepted
 
@@ -87,3 +89,17 @@ coded_by false a = refl
 pub coded : (b : List ℕ) → Coded b
 unfolding loaded_core loaded_whole load_code
 coded b = record { core = coded_by (accepts b) (core_loaded b); whole = coded_by (accepts b) (loaded b) }
+
+-- ---- with the reset state in place of a refusal
+
+given_by : {A : Type 0} (t : Bool) (x z : A) → given_or z (pick t (Ok (pick t x z)) (Err BadBlock)) ≡ pick t x z
+given_by true x z = refl
+given_by false x z = refl
+
+pub core_or_reset : (b : List ℕ) (r : Result Core Refusal) → r ≡ loaded_core b → given_or reset.core r ≡ core_loaded b
+unfolding loaded_core core_loaded
+core_or_reset b r e = rw e (given_by (accepts b) (core_at b) reset.core)
+
+pub whole_or_reset : (b : List ℕ) (r : Result Controller Refusal) → r ≡ loaded_whole b → given_or reset r ≡ loaded b
+unfolding loaded_whole loaded
+whole_or_reset b r e = rw e (given_by (accepts b) (decoded b) reset)

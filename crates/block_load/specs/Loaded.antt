@@ -17,6 +17,11 @@ banks_loaded b = block.banks_loaded b
 unfoldable pub loaded_whole : List ℕ → Result Controller Refusal
 loaded_whole b = pick (block.accepts b) (Ok (block.loaded b)) (Err BadBlock)
 
+-- what was loaded, or what stands in the place of a refusal
+abbrev pub given_or : {A : Type 0} → A → Result A Refusal → A
+given_or z (Ok x) = x
+given_or z (Err r) = z
+
 -- both are refused by the code of the definition
 pub record Coded (b : List ℕ) : Type 0 where
   pub core : code_of (loaded_core b) ≡ block.load_code b

@@ -3,7 +3,9 @@
 
 ghost use Rattle.std.specs.Prelude.{◌≡◌};
 ghost use Rattle.block.specs.Block as blocks;
+ghost use Rattle.block.specs.Loading as block;
 ghost use Rattle.block_load.specs.Loaded as loading;
+ghost use Rattle.model.specs.Registers as registers;
 
 use block::Block;
 use model::{ByMailbox, Controller, Core, Refusal, Transmit};
@@ -45,8 +47,10 @@ fn core_at(b: &Block) -> Core
 // ---- loading. A block is refused exactly when no state within the ranges is saved as its bytes
 
 // All but the banks' words. The form is looked at before anything is taken, so that what is taken need not be kept meanwhile.
+// With the reset state in place of a refusal it is what the definition of block has, and so below.
 pub fn load_core(b: &[u8]) -> Result<Core, Refusal>
-    ensures { result ≡ loading.loaded_core b.now }
+    ensures value { result ≡ loading.loaded_core b.now }
+    ensures or_reset { loading.given_or registers.reset.core result ≡ block.core_loaded b.now }
 {
     let Ok(block) = <&Block>::try_from(b) else {
         return Err(Refusal::BadBlock);
@@ -73,7 +77,8 @@ pub fn load_banks(b: &[u8]) -> [u32; 28]
 }
 
 pub fn load(b: &[u8]) -> Result<Controller, Refusal>
-    ensures { result ≡ loading.loaded_whole b.now }
+    ensures value { result ≡ loading.loaded_whole b.now }
+    ensures or_reset { loading.given_or registers.reset result ≡ block.loaded b.now }
 {
     let core = load_core(b)?;
     let banks = load_banks(b);

@@ -105,17 +105,17 @@ impl Session {
         )
     }
 
-    // All text goes out before more is read.
+    // All text goes out before more is read; where that fails the input is still looked at once, so that both faults are told.
     fn read_on(&mut self) -> ControlFlow<()> {
-        self.flush()?;
+        let flow = self.flush();
         let _ = self
             .input
             .read_on_or_tell(&mut self.stdin, &self.stderr, "comparisons");
-        ControlFlow::Continue(())
+        flow
     }
 
     fn store(&mut self, l: Line) {
-        let _fits = self.waiting.try_extend_from_slice(l.as_bytes());
+        stream::store(&mut self.waiting, l.as_bytes());
     }
 
     fn end(&mut self) -> ControlFlow<()> {

@@ -12,6 +12,8 @@ use model::{
 };
 use writes::BankWrite;
 
+mod same; // same.rt: the core field by field
+
 // ---- hardware reset
 
 // One by one, see model::ByMailbox.
@@ -199,21 +201,19 @@ pub fn core_step(c: Core, banks: [u32; 28], e: Step) -> CoreStepped
     }
 }
 
-// One register access, bus event or hardware reset: the next controller, the code, the lines, the word.
+// One register access, bus event or hardware reset: the next controller, the code, the lines, the word. The core goes in field by field,
+// and the words of the banks are stored only where the step changes them: handed on whole, both were copied more often in every step.
 pub fn step(z: Controller, e: Step) -> Stepped
     ensures { result ≡ stepping.step z e }
 {
-    let CoreStepped {
-        core,
-        answer,
-        banks,
-    } = core_step(z.core, z.banks, e);
-    let Answer { code, lines, word } = answer;
+    let s = core_step(same::core(z.core), z.banks, e);
+    let mut controller = Controller { core: s.core, ..z };
+    if !s.banks.is_nothing() {
+        controller.banks = writes::banks_after(z.banks, s.banks);
+    }
+    let Answer { code, lines, word } = s.answer;
     Stepped {
-        controller: Controller {
-            core,
-            banks: writes::banks_after(z.banks, banks),
-        },
+        controller,
         code,
         lines,
         word,

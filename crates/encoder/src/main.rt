@@ -176,7 +176,7 @@ impl Session {
 
     // The answer goes behind those that wait. There is room: they all answer requests of one piece, which has more bytes.
     fn answer(&mut self, e: WideStep, space: usize) -> ControlFlow<()> {
-        let _fits = self.waiting.try_extend_from_slice(&answer(e, space));
+        stream::store(&mut self.waiting, &answer(e, space));
         self.answered = self.answered.next();
         self.input.pass(REQUEST_LENGTH);
         ControlFlow::Continue(())

@@ -59,7 +59,7 @@ impl Session {
 
     // A line goes behind the text that waits; it tells so many bytes.
     fn tell(&mut self, l: Line, length: usize) -> ControlFlow<()> {
-        let _fits = self.waiting.try_extend_from_slice(l.byte(b'\n').as_bytes());
+        stream::store(&mut self.waiting, l.byte(b'\n').as_bytes());
         self.input.pass(length);
         if ENOUGH_TEXT < self.waiting.len() {
             return self.flush();

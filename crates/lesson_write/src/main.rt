@@ -131,12 +131,12 @@ impl Session {
     }
 
     fn write(&mut self, bytes: &[u8]) {
-        let _fits = self.waiting.try_extend_from_slice(bytes);
+        stream::store(&mut self.waiting, bytes);
     }
 
     // The bytes of a script that a line is.
     fn write_script(&mut self, bytes: &[u8]) -> ControlFlow<()> {
-        if bytes.is_empty() || !self.is_written() {
+        if bytes.is_empty() {
             return ControlFlow::Continue(());
         }
         if self.mode == Mode::Items {
@@ -216,6 +216,8 @@ impl Session {
             Err(f) => return self.refuse(line, f.place, Rule::Line(f.rule)),
         };
         match meaning {
+            // What would be dropped is not made.
+            Meaning::Step(_) | Meaning::Bytes(_) if !self.is_written() => ControlFlow::Continue(()),
             Meaning::Step(e) => {
                 let mut record = [0; LONGEST_RECORD];
                 let n = writer::write_record(e, &mut record).unwrap_or(0);
@@ -278,14 +280,12 @@ impl Session {
 
 fn asked_mode(rt: &impl Env) -> Result<Mode, ArgumentsError> {
     let mut text = [0; 4096];
-    match command_line::argument(rt, &mut text)? {
-        None => Ok(Mode::Script),
-        Some(n) => match &text[..n] {
-            b"--check" => Ok(Mode::Check),
-            b"--expects" => Ok(Mode::Items),
-            _ => Err(ArgumentsError::Unknown),
-        },
+    let given = command_line::argument(rt, &mut text);
+    if command_line::asked_for(given, &text, b"--expects") == Ok(true) {
+        return Ok(Mode::Items);
     }
+    let checks = command_line::asked_for(given, &text, b"--check")?;
+    Ok(if checks { Mode::Check } else { Mode::Script })
 }
 
 // Other arguments are told, and nothing is read.

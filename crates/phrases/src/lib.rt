@@ -27,7 +27,9 @@ pub fn name(l: Line, row: usize, index: u32) -> Line
     for c in &text[..8] {
         match *c {
             0..=b' ' => return line,
-            c => line = line.letter(c, u64::from(index)),
+            // Not `letter`: by it a written word takes an eighth more instructions.
+            b'%' => line = line.decimal(u64::from(index)),
+            c => line = line.byte(c),
         }
     }
     line

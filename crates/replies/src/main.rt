@@ -104,7 +104,7 @@ impl Session {
 
     // The text of a line goes behind the text that waits.
     fn store(&mut self, l: Line) -> ControlFlow<()> {
-        let _fits = self.waiting.try_extend_from_slice(l.as_bytes());
+        stream::store(&mut self.waiting, l.as_bytes());
         if ENOUGH_TEXT < self.waiting.len() {
             return self.flush();
         }

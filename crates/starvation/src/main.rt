@@ -5,7 +5,6 @@
 
 use model::{Controller, Step};
 use std::env::Env;
-use std::io;
 
 mod number;
 
@@ -88,89 +87,84 @@ impl Traffic {
     }
 
     // The marks; while mailbox 0 waits, how many others have been sent; then, once, that it is sent.
-    fn print(&self, rt: &impl Print) -> io::Result<()> {
+    fn print(&self, rt: &impl Print) {
         let (a, b, c) = (self.mark(0, 26), self.mark(1, 27), self.mark(2, 28));
-        print!(rt; "         {a}{b}{c}")?;
+        let _ = print!(rt; "         {a}{b}{c}");
         let others = self.others;
         if self.waits {
-            print!(rt; "{others:>10}")
+            let _ = print!(rt; "{others:>10}");
         } else if self.sent == 0 {
-            print!(rt; "    mailbox 0 is sent, after {others}")
-        } else {
-            Ok(())
+            let _ = print!(rt; "    mailbox 0 is sent, after {others}");
         }
     }
 }
 
-fn print_head(rt: &impl Print) -> io::Result<()> {
-    println!(rt;
+fn print_head(rt: &impl Print) {
+    let _ = println!(rt;
         "Mailbox 0 asks to send \"close gate\", identifier 0x7FF. Mailboxes 1 and 2 send reports, identifiers 0x100 and"
-    )?;
-    println!(rt;
+    );
+    let _ = println!(rt;
         "0x101, and each is filled again while the other one is on the wire. One turn is one frame that ends well."
-    )?;
-    println!(rt; "Marks: # on the wire, | waits, . empty")?;
-    println!(rt)?;
-    println!(rt; "            lowest identifier first (TXFP=0)     order of requests (TXFP=1)")?;
-    println!(rt;
+    );
+    let _ = println!(rt; "Marks: # on the wire, | waits, . empty");
+    let _ = println!(rt);
+    let _ = println!(rt;
+        "            lowest identifier first (TXFP=0)     order of requests (TXFP=1)"
+    );
+    let _ = println!(rt;
         "      turn  mailbox 0 1 2    others              mailbox 0 1 2    others sent before mailbox 0"
-    )
+    );
 }
 
 // Left and right are the two columns of the picture, and rt is where it goes.
-fn print_row(rt: &impl Print, k: u32, left: &Traffic, right: &Traffic) -> io::Result<()> {
-    print!(rt; "{k:>10}")?;
-    left.print(rt)?;
-    print!(rt; "            ")?;
-    right.print(rt)?;
-    println!(rt)
+fn print_row(rt: &impl Print, k: u32, left: &Traffic, right: &Traffic) {
+    let _ = print!(rt; "{k:>10}");
+    left.print(rt);
+    let _ = print!(rt; "            ");
+    right.print(rt);
+    let _ = println!(rt);
 }
 
-fn print_left_out(rt: &impl Print, n: u32) -> io::Result<()> {
-    println!(rt;
+fn print_left_out(rt: &impl Print, n: u32) {
+    let _ = println!(rt;
         "       ...  {n} turns left out; in each the same was checked: no step was refused, and after it TSR showed"
-    )?;
-    println!(rt; "            mailbox 0 as not empty on the left and as empty on the right")
+    );
+    let _ = println!(rt;
+        "            mailbox 0 as not empty on the left and as empty on the right"
+    );
 }
 
 // The first eight turns and the last three; all where there are few.
-fn print_turn(
-    rt: &impl Print,
-    k: u32,
-    last: u32,
-    left: &Traffic,
-    right: &Traffic,
-) -> io::Result<()> {
+fn print_turn(rt: &impl Print, k: u32, last: u32, left: &Traffic, right: &Traffic) {
     if last <= 12 || k <= 8 || last.saturating_sub(k) < 3 {
-        print_row(rt, k, left, right)
+        print_row(rt, k, left, right);
     } else if k == 9 {
-        print_left_out(rt, last - 11)
-    } else {
-        Ok(())
+        print_left_out(rt, last - 11);
     }
 }
 
-fn print_result(rt: &impl Print, left: &Traffic, right: &Traffic) -> io::Result<()> {
-    println!(rt)?;
-    println!(rt;
+fn print_result(rt: &impl Print, left: &Traffic, right: &Traffic) {
+    let _ = println!(rt);
+    let _ = println!(rt;
         "Lowest identifier first: {} other frames have ended well since mailbox 0 asked, and it still waits.",
         left.others
-    )?;
-    println!(rt;
+    );
+    let _ = println!(rt;
         "Order of requests: mailbox 0 was sent after {} others.",
         right.others
-    )
+    );
 }
 
 // ---- the program
 
-fn complain(rt: &impl Eprint) -> io::Result<()> {
-    eprintln!(rt; "starvation: an answer of the controller is not the expected one")
+fn complain(rt: &impl Eprint) {
+    let _ = eprintln!(rt; "starvation: an answer of the controller is not the expected one");
 }
 
-fn show(rt: &(impl Print + Eprint), n: u32) -> io::Result<()> {
+// Output that can't be written is lost, and there is nobody to tell; what follows may go out again.
+fn show(rt: &(impl Print + Eprint), n: u32) {
     let last = n.max(3);
-    print_head(rt)?;
+    print_head(rt);
     let (Some(mut left), Some(mut right)) = (Traffic::opened(false), Traffic::opened(true)) else {
         return complain(rt);
     };
@@ -183,9 +177,9 @@ fn show(rt: &(impl Print + Eprint), n: u32) -> io::Result<()> {
         }
         left = l;
         right = r;
-        print_turn(rt, k, last, &left, &right)?;
+        print_turn(rt, k, last, &left, &right);
     }
-    print_result(rt, &left, &right)
+    print_result(rt, &left, &right);
 }
 
 // The number that is the only argument.
@@ -197,10 +191,11 @@ fn argument(rt: &impl Env) -> Option<u32> {
     }
 }
 
-// Output that can't be written is lost, and there is nobody to tell.
 fn main(rt: HostRuntime) {
-    let _ = match argument(&rt) {
+    match argument(&rt) {
         Some(n) => show(&rt, n),
-        None => eprintln!(rt; "usage: starvation N, with N from 0 to 4294967295"),
-    };
+        None => {
+            let _ = eprintln!(rt; "usage: starvation N, with N from 0 to 4294967295");
+        }
+    }
 }

@@ -1,6 +1,7 @@
 -- What is read of an input and not used yet. Nothing here is of document 01.
 use Rattle.std.specs.Prelude.{◌≡◌, ℕ, ◌-◌, ◌<◌, ◌&&◌, Bool, List, [], ◌++◌, length, take, drop, ◌==◌, nat_lt, Option, Result, Ok, Err, cond, true, false}
 use Rattle.std.specs.Io.KnownBytes.{Keeps, Consumes, IsAtEnd}
+use Rattle.stream.specs.declared.Input.{Input}
 use Rattle.stream.specs.declared.Source.{Source}
 use Rattle.stream.specs.declared.Source.TheVariants.{Open, Ended, Failed}
 
@@ -12,6 +13,10 @@ pub record Unread : Type 0 where
 -- the bytes of a space from one place up to another
 abbrev pub between : ℕ → ℕ → List ℕ → List ℕ
 between from to s = take (to - from) (drop from s)
+
+-- what contracts see of an input
+abbrev pub unread_of : {N : ℕ} → Input N → Unread
+unread_of i = record { bytes = between i.place i.filled i.bytes; source = i.source }
 
 abbrev pub nothing_read : Unread
 nothing_read = record { bytes = []; source = Open }

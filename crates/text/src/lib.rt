@@ -31,12 +31,16 @@ impl Line {
         ensures extends { lines.Extends self result }
         ensures value { result ≡ lines.added self b }
     {
+        // Two ways out: where they meet, the line is copied at each byte.
         let mut line = self;
-        if line.at < ROOM {
-            line.bytes[line.at] = b;
-            line.at += 1;
+        let at = self.at;
+        if at < ROOM {
+            line.bytes[at] = b;
+            line.at = at + 1;
+            line
+        } else {
+            line
         }
-        line
     }
 
     pub fn put(self, text: &[u8]) -> Self

@@ -110,7 +110,7 @@ impl Session {
 
     // A line goes behind the text that waits.
     fn store(&mut self, l: Line) {
-        let _fits = self.waiting.try_extend_from_slice(l.as_bytes());
+        stream::store(&mut self.waiting, l.as_bytes());
     }
 
     // All text goes out before more is read.

@@ -4,7 +4,7 @@
 ghost use Rattle.text.specs.Lines as lines;
 
 use account::Account;
-use account::faults::Fault;
+use account::faults::{Fault, Kind};
 use account::reasons::Reason;
 use model::Step;
 use text::Line;
@@ -167,21 +167,17 @@ pub fn fault(l: Line, f: Fault) -> Line
     ensures { lines.Extends l result }
 {
     let a = refused_by(l, f.refusal().into());
-    match f {
-        Fault::ShortHeader { bytes } => a.put(b"short header, ").decimal(bytes).put(b" bytes of 3"),
-        Fault::ShortBody { bytes, wanted } => {
+    match f.kind {
+        Kind::ShortHeader { bytes } => a.put(b"short header, ").decimal(bytes).put(b" bytes of 3"),
+        Kind::ShortBody { bytes } => {
             let b = a.put(b"short body, ").decimal(bytes);
-            b.put(b" bytes of ").decimal(wanted)
+            b.put(b" bytes of ").decimal(f.wanted)
         }
-        Fault::WrongLength {
-            length,
-            tag,
-            wanted,
-        } => {
+        Kind::WrongLength { length } => {
             let b = a.put(b"length ").decimal(length).put(b", ");
-            with_tag(b, tag).put(b" takes ").decimal(wanted)
+            with_tag(b, f.tag).put(b" takes ").decimal(f.wanted)
         }
-        Fault::UnknownTag { tag } => with_tag(a.put(b"unknown "), tag),
+        Kind::UnknownTag { .. } => with_tag(a.put(b"unknown "), f.tag),
     }
 }
 

@@ -17,15 +17,15 @@ returns-then-board-ne0-clause-block c = (no_board c.args.board c.args.b.now c.ar
 pub returns-in_err-core-clause-answer : goal.returns-in_err-core-clause-answer
 returns-in_err-core-clause-answer c =
     let p = err_from_is_err_and c.from_residual.result c.from_residual.ensures.1 in
-    rw (p.1, p.2) (not-loaded c.args.board c.args.b.now c.args.e _ c.in_err-core.ensures).0
+    rw (p.1, p.2) (not-loaded c.args.board c.args.b.now c.args.e _ c.in_err-core.ensures.value).0
 
 pub returns-in_err-core-clause-block : goal.returns-in_err-core-clause-block
-returns-in_err-core-clause-block c = (not-loaded c.args.board c.args.b.now c.args.e _ c.in_err-core.ensures).1
+returns-in_err-core-clause-block c = (not-loaded c.args.board c.args.b.now c.args.e _ c.in_err-core.ensures.value).1
 
 pub returns-then-s-ne0-clause-answer : goal.returns-then-s-ne0-clause-answer
 returns-then-s-ne0-clause-answer c =
     let h = c.if-board-ne0.false in
-    let p = c.in_ok-core.ensures in
+    let p = c.in_ok-core.ensures.value in
     let q = c.load_banks-banks.ensures in
     let t = c.core_step-s.ensures in
     answered c.args.board c.args.b.now c.args.e h _ p _ q _ t
@@ -33,7 +33,7 @@ returns-then-s-ne0-clause-answer c =
 pub returns-then-s-ne0-clause-block : goal.returns-then-s-ne0-clause-block
 returns-then-s-ne0-clause-block c =
     let h = c.if-board-ne0.false in
-    let p = c.in_ok-core.ensures in
+    let p = c.in_ok-core.ensures.value in
     let q = c.load_banks-banks.ensures in
     let t = c.core_step-s.ensures in
     elim c.then-s-ne0.branch [
@@ -46,7 +46,7 @@ returns-then-s-ne0-clause-block c =
 pub returns-in_err-save_core-clause-answer : goal.returns-in_err-save_core-clause-answer
 returns-in_err-save_core-clause-answer c =
     let h = c.if-board-ne0.false in
-    let p = c.in_ok-core.ensures in
+    let p = c.in_ok-core.ensures.value in
     let q = c.load_banks-banks.ensures in
     let t = c.core_step-s.ensures in
     absurd (core-saved c.args.board c.args.b.now c.args.e h _ p _ q _ t _ c.in_err-save_core.ensures.code)
@@ -54,7 +54,7 @@ returns-in_err-save_core-clause-answer c =
 pub returns-in_err-save_core-clause-block : goal.returns-in_err-save_core-clause-block
 returns-in_err-save_core-clause-block c =
     let h = c.if-board-ne0.false in
-    let p = c.in_ok-core.ensures in
+    let p = c.in_ok-core.ensures.value in
     let q = c.load_banks-banks.ensures in
     let t = c.core_step-s.ensures in
     absurd (core-saved c.args.board c.args.b.now c.args.e h _ p _ q _ t _ c.in_err-save_core.ensures.code)
@@ -62,7 +62,7 @@ returns-in_err-save_core-clause-block c =
 pub returns-in_err-save_banks-clause-answer : goal.returns-in_err-save_banks-clause-answer
 returns-in_err-save_banks-clause-answer c =
     let h = c.if-board-ne0.false in
-    let p = c.in_ok-core.ensures in
+    let p = c.in_ok-core.ensures.value in
     let q = c.load_banks-banks.ensures in
     let t = c.core_step-s.ensures in
     absurd (banks-saved c.args.board c.args.b.now c.args.e h _ p _ q _ t _ _ c.save_core.ensures.block c.in_err-save_banks.ensures.code)
@@ -70,7 +70,7 @@ returns-in_err-save_banks-clause-answer c =
 pub returns-in_err-save_banks-clause-block : goal.returns-in_err-save_banks-clause-block
 returns-in_err-save_banks-clause-block c =
     let h = c.if-board-ne0.false in
-    let p = c.in_ok-core.ensures in
+    let p = c.in_ok-core.ensures.value in
     let q = c.load_banks-banks.ensures in
     let t = c.core_step-s.ensures in
     absurd (banks-saved c.args.board c.args.b.now c.args.e h _ p _ q _ t _ _ c.save_core.ensures.block c.in_err-save_banks.ensures.code)
@@ -78,7 +78,7 @@ returns-in_err-save_banks-clause-block c =
 pub returns-clause-answer : goal.returns-clause-answer
 returns-clause-answer c =
     let h = c.if-board-ne0.false in
-    let p = c.in_ok-core.ensures in
+    let p = c.in_ok-core.ensures.value in
     let q = c.load_banks-banks.ensures in
     let t = c.core_step-s.ensures in
     answered c.args.board c.args.b.now c.args.e h _ p _ q _ t
@@ -86,7 +86,7 @@ returns-clause-answer c =
 pub returns-clause-block : goal.returns-clause-block
 returns-clause-block c =
     let h = c.if-board-ne0.false in
-    let p = c.in_ok-core.ensures in
+    let p = c.in_ok-core.ensures.value in
     let q = c.load_banks-banks.ensures in
     let t = c.core_step-s.ensures in
     let z = c.if-s-ne0.false in
