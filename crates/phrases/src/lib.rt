@@ -27,9 +27,9 @@ pub fn name(l: Line, row: usize, index: u32) -> Line
     for c in &text[..8] {
         match *c {
             0..=b' ' => return line,
-            // Not `letter`: by it a written word takes an eighth more instructions.
+            // Not `letter`: by value the line is copied at each letter.
             b'%' => line = line.decimal(u64::from(index)),
-            c => line = line.byte(c),
+            c => line.push(c),
         }
     }
     line

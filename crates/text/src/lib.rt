@@ -27,20 +27,24 @@ impl Line {
         }
     }
 
+    // In place, for loops: by value the line of 520 bytes is copied at each byte.
+    pub fn push(&mut self, b: u8)
+        ensures extends { lines.Extends self.old self.new }
+        ensures value { self.new ≡ lines.added self.old b }
+    {
+        if self.at < ROOM {
+            self.bytes[self.at] = b;
+            self.at += 1;
+        }
+    }
+
     pub fn byte(self, b: u8) -> Self
         ensures extends { lines.Extends self result }
         ensures value { result ≡ lines.added self b }
     {
-        // Two ways out: where they meet, the line is copied at each byte.
         let mut line = self;
-        let at = self.at;
-        if at < ROOM {
-            line.bytes[at] = b;
-            line.at = at + 1;
-            line
-        } else {
-            line
-        }
+        line.push(b);
+        line
     }
 
     pub fn put(self, text: &[u8]) -> Self
@@ -49,7 +53,7 @@ impl Line {
     {
         let mut line = self;
         for b in text {
-            line = line.byte(*b);
+            line.push(*b);
         }
         line
     }
@@ -61,7 +65,7 @@ impl Line {
     {
         let mut line = self;
         for _ in 0..n {
-            line = line.byte(b' ');
+            line.push(b' ');
         }
         line
     }
@@ -118,7 +122,7 @@ impl Line {
     {
         let mut line = self;
         for j in (0..k).rev() {
-            line = line.byte(digit_at(w, j));
+            line.push(digit_at(w, j));
         }
         line
     }

@@ -29,7 +29,7 @@ loop-c-preserved c =
           (number_put _ _ _ _ _ w.in-37.is w.from.ensures (w.line-is ∙ w.decimal-line.ensures.value)) c.loop-c.invariant
       | in_default w ↦
           name_on_lem c.loop-c.line _ _ _ c.loop-c.c-index _ (grind arith) (grind arith)
-          (letter_put _ _ _ _ (grind arith) (w.line-is ∙ w.byte-line.ensures.value)) c.loop-c.invariant
+          (letter_put _ _ _ _ (grind arith) (w.line-is ∙ w.push.ensures.value)) c.loop-c.invariant
     ]
 
 pub returns : goal.returns
